@@ -1,0 +1,8 @@
+//! The outside of a run: a tree of files and a sink for the report, as traits, and both in memory.
+#![tactic(auto)]
+
+mod sink;
+mod tree;
+
+pub use sink::{Sink, SinkFailed};
+pub use tree::{Entry, Found, Tree, TreeError};
