@@ -3,7 +3,7 @@ use Rattle.std.specs.Prelude.{◌≡◌, ℕ, ◌+◌, ◌<◌, ◌≤◌, ◌�
 use Rattle.std.specs.Option.{option_map}
 use Rattle.std.specs.Ordering.{nat_cmp}
 use Rattle.std.specs.List.{Contains, starts_with, before_first, list_any}
-use Rattle.std.specs.FinMap.{FinMap, get}
+use Rattle.std.specs.FinMap.{FinMap, get, insert}
 use Rattle.std.specs.Cmp.Lexicographic.{slice_cmp}
 use Rattle.ct_outside.specs.declared.tree.Entry.{Entry}
 use Rattle.ct_outside.specs.declared.tree.Found.{Found}
@@ -61,6 +61,10 @@ ReadsFile files path limit There old new =
     (bytes : List ℕ) × (get files path ≡ Some bytes) × (length bytes ≤ limit) × (new ≡ old ++ bytes)
 ReadsFile files path limit Absent old new = get files path ≡ None
 ReadsFile files path limit TooLarge old new = IsSomeAnd (get files path) (λ bytes. limit < length bytes)
+
+-- from one moment to another this file was set and no other, where the files are told
+abbrev pub SetsFile : Option Files → Option Files → List ℕ → List ℕ → Type 0
+SetsFile before now path bytes = now ≡ option_map (λ told. insert told path bytes) before
 
 -- what a call leaves in the vector that it was lent: more at its end where it found something, what
 -- stood there where memory ran out, and else the same

@@ -1,8 +1,8 @@
 //! A sink for text.
 
-ghost use Rattle.std.specs.Prelude.{◌≡◌, ℕ, ◌++◌, ◌<◌, ◌≤◌, List, Option, IfOk, OnOk, OnErr, length, take};
-ghost use Rattle.std.specs.Option.{option_map};
+ghost use Rattle.std.specs.Prelude.{◌≡◌, ℕ, ◌<◌, ◌≤◌, List, Option, IfOk, OnOk, OnErr, length, take};
 ghost use Rattle.ct_outside.specs.Counts.{Rose};
+ghost use Rattle.ct_outside.specs.Taken.{Took};
 
 /// The sink failed, and its count of faults rose.
 #[derive(Clone, Copy, Debug, PartialEq, Eq)]
@@ -21,8 +21,7 @@ pub trait Sink {
     fn write(&mut self, piece: &[u8]) -> Result<usize, SinkFailed>
         ensures within { IfOk result (λ count. count ≤ length piece.now) }
         ensures some { IfOk result (λ count. 0 < length piece.now → 0 < count) }
-        ensures taken { IfOk result (λ count. taken self.new
-            ≡ option_map (λ before. before ++ take count piece.now) (taken self.old)) }
+        ensures taken { IfOk result (λ count. Took (taken self.old) (taken self.new) (take count piece.now)) }
         ensures same_faults { OnOk result (faults self.new ≡ faults self.old) }
         ensures failed { OnErr result (Rose (faults self.old) (faults self.new)) }
         ensures nothing { OnErr result (taken self.new ≡ taken self.old) };

@@ -1,10 +1,8 @@
 //! A tree of files.
 
-ghost use Rattle.std.specs.Prelude.{◌≡◌, ℕ, ◌+◌, ◌≤◌, List, Option, IfOk, IfSome, OnErr, vec_len, is_ok, if◌then◌else◌};
-ghost use Rattle.std.specs.Option.{option_map};
-ghost use Rattle.std.specs.FinMap.{insert};
+ghost use Rattle.std.specs.Prelude.{◌≡◌, ℕ, ◌+◌, ◌≤◌, List, Option, IfOk, IfSome, OnOk, OnErr, vec_len};
 ghost use Rattle.ct_outside.specs.Counts.{CountAfter};
-ghost use Rattle.ct_outside.specs.Files.{Files, Leaves, ListsFolder, ReadsFile};
+ghost use Rattle.ct_outside.specs.Files.{Files, Leaves, ListsFolder, ReadsFile, SetsFile};
 
 use ct_base::Text;
 use std::alloc::Global;
@@ -80,8 +78,7 @@ pub trait Tree {
     /// Sets a file to these bytes, and changes no other.
     fn write(&mut self, alloc: Global, path: &str, bytes: &[u8]) -> Result<(), TreeError>
         ensures same_files { OnErr result (files self.new ≡ files self.old) }
-        ensures written { IfOk result (λ _. files self.new
-            ≡ option_map (λ told. insert told path.now bytes.now) (files self.old)) }
+        ensures written { OnOk result (SetsFile (files self.old) (files self.new) path.now bytes.now) }
         ensures faults { CountAfter result (write_faults self.old) (write_faults self.new) }
         ensures other_faults { read_faults self.new ≡ read_faults self.old };
 }

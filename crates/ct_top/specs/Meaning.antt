@@ -1,0 +1,42 @@
+-- What a test file means.
+use Rattle.std.specs.Prelude.{◌≡◌, ℕ, ◌==◌, List, [], ◌∷◌, ◌++◌, map, Option, Some, None, Result, Ok, Err, codes, decimal, if◌then◌else◌}
+use Rattle.ct_base.specs.declared.lexical.Token.{Token}
+use Rattle.ct_base.specs.declared.refusals.Refusal.{Refusal}
+use Rattle.ct_report.specs.declared.logs.Verdict.TheVariants.{Pass, Fail}
+use Rattle.ct_report.specs.declared.logs.TestLine.{TestLine}
+use Rattle.ct_report.specs.declared.logs.RunLog.{RunLog}
+use Rattle.ct_token.specs.Lexing.{IsTokenization}
+use Rattle.ct_top.specs.declared.form.Check.{Check}
+use Rattle.ct_top.specs.declared.form.TestFunction.{TestFunction}
+use Rattle.ct_top.specs.Form.{HasForm}
+
+-- the first assertion that fails ends the test
+abbrev pub first_failure : List Check → Option Check
+first_failure [] = None
+first_failure (check ∷ checks) = if check.expected == check.actual then first_failure checks else Some check
+
+-- `Expected n Was m`
+abbrev pub failure_text : Check → List ℕ
+failure_text check = codes "Expected " ++ decimal check.expected ++ codes " Was " ++ decimal check.actual
+
+-- a test that failed names the line of the assertion, and one that passed its own
+abbrev pub line_after : TestFunction → Option Check → TestLine
+line_after test None = record { name = test.name; line = test.line; verdict = Pass; text = []; infos = [] }
+line_after test (Some check) = record { name = test.name; line = check.line; verdict = Fail; text = failure_text check; infos = [] }
+
+-- how a test ends
+abbrev pub line_of : TestFunction → TestLine
+line_of test = line_after test (first_failure test.checks)
+
+-- the refusal of a token that no item reads
+abbrev pub unsupported : List ℕ → Token → Refusal
+unsupported path token = record { kind = 7; file = path; line = token.span.line; text = codes "Unsupported " ++ token.text }
+
+abbrev pub log_of : List ℕ → Result (List TestFunction) Token → Result RunLog Refusal
+log_of path (Ok tests) = Ok (record { file = path; tests = map line_of tests })
+log_of path (Err token) = Err (unsupported path token)
+
+-- A test file of this path and text has this log, or is refused so.
+abbrev pub FileMeans : List ℕ → List ℕ → Result RunLog Refusal → Type 0
+FileMeans path text answer =
+    (tokens : List Token) × (form : Result (List TestFunction) Token) × IsTokenization 0 text tokens × HasForm tokens form × (answer ≡ log_of path form)

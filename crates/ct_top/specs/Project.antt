@@ -1,0 +1,142 @@
+-- What a project means: the report of its tests, or its first refusal.
+use Rattle.std.specs.Prelude.{◌≡◌, ℕ, ◌<◌, ◌≤◌, ◌↔◌, Bool, true, false, IsTrue, List, [], ◌∷◌, ◌++◌, map, length, find, nat_eq, nat_lt, Option, Some, None, IsSome, unwrap_or, Result, Ok, Err, codes, decimal, if◌then◌else◌}
+use Rattle.std.specs.List.{Contains, starts_with, ends_with, list_any}
+use Rattle.std.specs.List.Sorted.{IsSorted}
+use Rattle.std.specs.Ordering.{nat_cmp}
+use Rattle.std.specs.Cmp.Lexicographic.{slice_cmp}
+use Rattle.std.specs.FinMap.{get}
+use Rattle.ct_base.specs.declared.answers.Status.{Status}
+use Rattle.ct_base.specs.declared.answers.Status.TheVariants.{Refused}
+use Rattle.ct_base.specs.declared.refusals.Refusal.{Refusal}
+use Rattle.ct_outside.specs.declared.tree.Entry.{Entry}
+use Rattle.ct_outside.specs.Files.{Files, is_slash, EachOnce, IsListing}
+use Rattle.ct_report.specs.declared.logs.RunLog.{RunLog}
+use Rattle.ct_report.specs.Report.{report_of, status_of}
+use Rattle.ct_top.specs.Meaning.{FileMeans}
+
+-- the most bytes that a file may have, and the most entries that may be listed
+abbrev pub file_bytes : ℕ
+file_bytes = 1048576
+
+abbrev pub most_entries : ℕ
+most_entries = 20000
+
+-- Where they were read, the bytes of a file make it too long.
+abbrev pub is_too_long : List ℕ → Bool
+is_too_long text = nat_lt file_bytes (length text)
+
+abbrev pub project_path : List ℕ
+project_path = codes "project.yml"
+
+abbrev pub test_folder : List ℕ
+test_folder = codes "test"
+
+abbrev pub refusal : ℕ → List ℕ → ℕ → List ℕ → Refusal
+refusal kind file line text = record { kind = kind; file = file; line = line; text = text }
+
+abbrev pub no_project : Refusal
+no_project = refusal 1 project_path 0 (codes "NoProject")
+
+-- no setting is read yet
+abbrev pub no_settings : Refusal
+no_settings = refusal 2 project_path 1 (codes "Settings Yaml")
+
+abbrev pub too_long : List ℕ → Refusal
+too_long path = refusal 4 path 0 (codes "Limit FileBytes")
+
+abbrev pub too_many_entries : Refusal
+too_many_entries = refusal 4 test_folder 0 (codes "Limit Entries")
+
+-- why the project file refuses the project
+abbrev pub refusal_of_text : List ℕ → Option Refusal
+refusal_of_text [] = None
+refusal_of_text (byte ∷ bytes) = if is_too_long (byte ∷ bytes) then Some (too_long project_path) else Some no_settings
+
+abbrev pub project_refusal : Option (List ℕ) → Option Refusal
+project_refusal None = Some no_project
+project_refusal (Some text) = refusal_of_text text
+
+-- the name of a test file: it begins with `test_` and ends in `.c`
+abbrev pub IsTestFileName : List ℕ → Type 0
+IsTestFileName name =
+    (list_any is_slash name ≡ false) × IsTrue (starts_with nat_eq name (codes "test_")) × IsTrue (ends_with nat_eq name (codes ".c"))
+
+abbrev pub in_test_folder : List ℕ → List ℕ
+in_test_folder name = test_folder ++ 47 ∷ name
+
+-- a test file: a file directly in the test folder with such a name
+abbrev pub IsTestFile : Files → List ℕ → Type 0
+IsTestFile files path = IsSome (get files path) × (name : List ℕ) × IsTestFileName name × (path ≡ in_test_folder name)
+
+-- the test files, each once, sorted by the bytes of their paths
+pub record AreTestFiles (files : Files) (paths : List (List ℕ)) : Type 0 where
+  pub each : (path : List ℕ) → Contains paths path ↔ IsTestFile files path
+  pub once : EachOnce paths
+  pub sorted : IsSorted (slice_cmp nat_cmp) paths
+
+-- a file by its path and its bytes
+abbrev pub FileText : Type 0
+FileText = List ℕ × List ℕ
+
+abbrev pub text_at : Files → List ℕ → List ℕ
+text_at files path = unwrap_or (get files path) []
+
+abbrev pub with_text : Files → List ℕ → FileText
+with_text files path = (path, text_at files path)
+
+-- the logs of the test files that are run, in order, or the first refusal
+abbrev pub Outcome : Type 0
+Outcome = Result (List RunLog) Refusal
+
+abbrev pub with_log : RunLog → Outcome → Outcome
+with_log log (Ok logs) = Ok (log ∷ logs)
+with_log log (Err refusal) = Err refusal
+
+-- the first file that is refused refuses the project, and then no later one counts
+abbrev pub AfterFile : Result RunLog Refusal → (Outcome → Type 0) → Outcome → Type 0
+AfterFile (Err refusal) Others outcome = outcome ≡ Err refusal
+AfterFile (Ok log) Others outcome = (others : Outcome) × Others others × (outcome ≡ with_log log others)
+
+abbrev pub FilesMean : List FileText → Outcome → Type 0
+FilesMean [] outcome = outcome ≡ Ok []
+FilesMean (file ∷ files) outcome =
+    (answer : Result RunLog Refusal) × FileMeans file.0 file.1 answer × AfterFile answer (FilesMean files) outcome
+
+-- Every file is read before any is translated, so one that is too long comes first.
+abbrev pub AfterReading : Option FileText → List FileText → Outcome → Type 0
+AfterReading (Some file) files outcome = outcome ≡ Err (too_long file.0)
+AfterReading None files outcome = FilesMean files outcome
+
+abbrev pub ReadFilesMean : List FileText → Outcome → Type 0
+ReadFilesMean files outcome = AfterReading (find (λ file. is_too_long file.1) files) files outcome
+
+-- the listing of the test folder, and what the test files mean
+abbrev pub AfterListing : Bool → Files → Outcome → Type 0
+AfterListing true files outcome = outcome ≡ Err too_many_entries
+AfterListing false files outcome = (paths : List (List ℕ)) × AreTestFiles files paths × ReadFilesMean (map (with_text files) paths) outcome
+
+abbrev pub TestsMean : Files → Outcome → Type 0
+TestsMean files outcome =
+    (entries : List Entry) × IsListing files test_folder entries × AfterListing (nat_lt most_entries (length entries)) files outcome
+
+abbrev pub AfterProject : Option Refusal → Files → Outcome → Type 0
+AfterProject (Some refusal) files outcome = outcome ≡ Err refusal
+AfterProject None files outcome = TestsMean files outcome
+
+-- A project of these files has this outcome.
+abbrev pub HasOutcome : Files → Outcome → Type 0
+HasOutcome files outcome = AfterProject (project_refusal (get files project_path)) files outcome
+
+-- `ERROR: FILE:LINE: TEXT`
+abbrev pub refusal_line : Refusal → List ℕ
+refusal_line refusal =
+    codes "ERROR: " ++ refusal.file ++ codes ":" ++ decimal refusal.line ++ codes ": " ++ refusal.text ++ 10 ∷ []
+
+-- what is written for an outcome: the report, or the one line of the refusal
+abbrev pub output_of : Outcome → List ℕ
+output_of (Ok logs) = report_of logs
+output_of (Err refusal) = refusal_line refusal
+
+abbrev pub status_after : Outcome → Status
+status_after (Ok logs) = status_of logs
+status_after (Err refusal) = Refused

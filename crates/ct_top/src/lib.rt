@@ -1,0 +1,17 @@
+//! The top call: from the words and the files of a project to the report.
+#![tactic(auto)]
+
+mod files;
+mod form;
+mod items;
+mod numbers;
+mod project;
+mod refusing;
+mod running;
+mod stops;
+mod top;
+mod translating;
+mod words;
+mod writing;
+
+pub use ct_base::Status;
