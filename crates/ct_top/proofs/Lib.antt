@@ -1,3 +1,13 @@
-mod Spelling
+mod Checks
+mod Includes
+mod Listing
+mod Logs
+mod Members
+mod Misses
 mod OneWord
+mod Projects
+mod Reading
+mod Sequence
+mod Spelling
+mod Standing
 mod Taken

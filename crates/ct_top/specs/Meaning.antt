@@ -1,5 +1,5 @@
 -- What a test file means.
-use Rattle.std.specs.Prelude.{◌≡◌, ℕ, ◌==◌, List, [], ◌∷◌, ◌++◌, map, Option, Some, None, Result, Ok, Err, codes, decimal, if◌then◌else◌}
+use Rattle.std.specs.Prelude.{◌≡◌, ℕ, ◌==◌, List, [], ◌∷◌, ◌++◌, map, find, not, Option, Some, None, Result, Ok, Err, codes, decimal}
 use Rattle.ct_base.specs.declared.lexical.Token.{Token}
 use Rattle.ct_base.specs.declared.refusals.Refusal.{Refusal}
 use Rattle.ct_report.specs.declared.logs.Verdict.TheVariants.{Pass, Fail}
@@ -12,8 +12,7 @@ use Rattle.ct_top.specs.Form.{HasForm}
 
 -- the first assertion that fails ends the test
 abbrev pub first_failure : List Check → Option Check
-first_failure [] = None
-first_failure (check ∷ checks) = if check.expected == check.actual then first_failure checks else Some check
+first_failure checks = find (λ check. not (check.expected == check.actual)) checks
 
 -- `Expected n Was m`
 abbrev pub failure_text : Check → List ℕ
@@ -36,7 +35,10 @@ abbrev pub log_of : List ℕ → Result (List TestFunction) Token → Result Run
 log_of path (Ok tests) = Ok (record { file = path; tests = map line_of tests })
 log_of path (Err token) = Err (unsupported path token)
 
+-- A test file of this path and these tokens has this log, or is refused so.
+abbrev pub TokensMean : List ℕ → List Token → Result RunLog Refusal → Type 0
+TokensMean path tokens answer = (form : Result (List TestFunction) Token) × HasForm tokens form × (answer ≡ log_of path form)
+
 -- A test file of this path and text has this log, or is refused so.
 abbrev pub FileMeans : List ℕ → List ℕ → Result RunLog Refusal → Type 0
-FileMeans path text answer =
-    (tokens : List Token) × (form : Result (List TestFunction) Token) × IsTokenization 0 text tokens × HasForm tokens form × (answer ≡ log_of path form)
+FileMeans path text answer = (tokens : List Token) × IsTokenization 0 text tokens × TokensMean path tokens answer

@@ -1,5 +1,5 @@
 -- What a project means: the report of its tests, or its first refusal.
-use Rattle.std.specs.Prelude.{◌≡◌, ℕ, ◌<◌, ◌≤◌, ◌↔◌, Bool, true, false, IsTrue, List, [], ◌∷◌, ◌++◌, map, length, find, nat_eq, nat_lt, Option, Some, None, IsSome, unwrap_or, Result, Ok, Err, codes, decimal, if◌then◌else◌}
+use Rattle.std.specs.Prelude.{◌≡◌, ℕ, ◌<◌, ◌≤◌, ◌↔◌, ◌&&◌, Bool, true, false, IsTrue, List, [], ◌∷◌, ◌++◌, map, length, find, nat_eq, nat_lt, Option, Some, None, IsSome, unwrap_or, Result, Ok, Err, codes, decimal, if◌then◌else◌}
 use Rattle.std.specs.List.{Contains, starts_with, ends_with, list_any}
 use Rattle.std.specs.List.Sorted.{IsSorted}
 use Rattle.std.specs.Ordering.{nat_cmp}
@@ -12,6 +12,7 @@ use Rattle.ct_outside.specs.declared.tree.Entry.{Entry}
 use Rattle.ct_outside.specs.Files.{Files, is_slash, EachOnce, IsListing}
 use Rattle.ct_report.specs.declared.logs.RunLog.{RunLog}
 use Rattle.ct_report.specs.Report.{report_of, status_of}
+use Rattle.ct_top.specs.declared.files.TestFile.{TestFile}
 use Rattle.ct_top.specs.Meaning.{FileMeans}
 
 -- the most bytes that a file may have, and the most entries that may be listed
@@ -57,16 +58,16 @@ project_refusal None = Some no_project
 project_refusal (Some text) = refusal_of_text text
 
 -- the name of a test file: it begins with `test_` and ends in `.c`
-abbrev pub IsTestFileName : List ℕ → Type 0
-IsTestFileName name =
-    (list_any is_slash name ≡ false) × IsTrue (starts_with nat_eq name (codes "test_")) × IsTrue (ends_with nat_eq name (codes ".c"))
+abbrev pub is_test_file_name : List ℕ → Bool
+is_test_file_name name = starts_with nat_eq name (codes "test_") && ends_with nat_eq name (codes ".c")
 
 abbrev pub in_test_folder : List ℕ → List ℕ
 in_test_folder name = test_folder ++ 47 ∷ name
 
 -- a test file: a file directly in the test folder with such a name
 abbrev pub IsTestFile : Files → List ℕ → Type 0
-IsTestFile files path = IsSome (get files path) × (name : List ℕ) × IsTestFileName name × (path ≡ in_test_folder name)
+IsTestFile files path =
+    (name : List ℕ) × (path ≡ in_test_folder name) × (list_any is_slash name ≡ false) × IsTrue (is_test_file_name name) × IsSome (get files path)
 
 -- the test files, each once, sorted by the bytes of their paths
 pub record AreTestFiles (files : Files) (paths : List (List ℕ)) : Type 0 where
@@ -74,15 +75,12 @@ pub record AreTestFiles (files : Files) (paths : List (List ℕ)) : Type 0 where
   pub once : EachOnce paths
   pub sorted : IsSorted (slice_cmp nat_cmp) paths
 
--- a file by its path and its bytes
-abbrev pub FileText : Type 0
-FileText = List ℕ × List ℕ
+-- a file with its bytes
+abbrev pub with_text : Files → List ℕ → TestFile
+with_text files path = record { path = path; text = unwrap_or (get files path) [] }
 
-abbrev pub text_at : Files → List ℕ → List ℕ
-text_at files path = unwrap_or (get files path) []
-
-abbrev pub with_text : Files → List ℕ → FileText
-with_text files path = (path, text_at files path)
+abbrev pub with_texts : Files → List (List ℕ) → List TestFile
+with_texts files paths = map (with_text files) paths
 
 -- the logs of the test files that are run, in order, or the first refusal
 abbrev pub Outcome : Type 0
@@ -97,23 +95,23 @@ abbrev pub AfterFile : Result RunLog Refusal → (Outcome → Type 0) → Outcom
 AfterFile (Err refusal) Others outcome = outcome ≡ Err refusal
 AfterFile (Ok log) Others outcome = (others : Outcome) × Others others × (outcome ≡ with_log log others)
 
-abbrev pub FilesMean : List FileText → Outcome → Type 0
+abbrev pub FilesMean : List TestFile → Outcome → Type 0
 FilesMean [] outcome = outcome ≡ Ok []
 FilesMean (file ∷ files) outcome =
-    (answer : Result RunLog Refusal) × FileMeans file.0 file.1 answer × AfterFile answer (FilesMean files) outcome
+    (answer : Result RunLog Refusal) × FileMeans file.path file.text answer × AfterFile answer (FilesMean files) outcome
 
 -- Every file is read before any is translated, so one that is too long comes first.
-abbrev pub AfterReading : Option FileText → List FileText → Outcome → Type 0
-AfterReading (Some file) files outcome = outcome ≡ Err (too_long file.0)
+abbrev pub AfterReading : Option TestFile → List TestFile → Outcome → Type 0
+AfterReading (Some file) files outcome = outcome ≡ Err (too_long file.path)
 AfterReading None files outcome = FilesMean files outcome
 
-abbrev pub ReadFilesMean : List FileText → Outcome → Type 0
-ReadFilesMean files outcome = AfterReading (find (λ file. is_too_long file.1) files) files outcome
+abbrev pub ReadFilesMean : List TestFile → Outcome → Type 0
+ReadFilesMean files outcome = AfterReading (find (λ file. is_too_long file.text) files) files outcome
 
 -- the listing of the test folder, and what the test files mean
 abbrev pub AfterListing : Bool → Files → Outcome → Type 0
 AfterListing true files outcome = outcome ≡ Err too_many_entries
-AfterListing false files outcome = (paths : List (List ℕ)) × AreTestFiles files paths × ReadFilesMean (map (with_text files) paths) outcome
+AfterListing false files outcome = (paths : List (List ℕ)) × AreTestFiles files paths × ReadFilesMean (with_texts files paths) outcome
 
 abbrev pub TestsMean : Files → Outcome → Type 0
 TestsMean files outcome =

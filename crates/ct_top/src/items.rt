@@ -1,16 +1,27 @@
 //! Items of a test file.
 
-ghost use Rattle.std.specs.Prelude.{◌≡◌, ◌<◌, List, All, IfOk, IfNone, IfSome, OnOk, length};
+ghost use Rattle.std.specs.Prelude.{◌≡◌, ◌≢◌, ◌<◌, ◌↔◌, List, [], ◌∷◌, All, IfOk, IfNone, IfSome, IsFalse, IsTrue, OnOk, length};
 ghost use Rattle.ct_base.specs.declared.lexical.Token.{Token as token};
-ghost use Rattle.ct_top.specs.Form.{IsAllowedAfter, IsCheck, IsTestFunction, Reads, Stand, StandsInclude, StandsItem, body_words, function_words, tests_of};
+ghost use Rattle.ct_top.specs.Form.{EndsLine, FitAll, IsAllowedAfter, IsCheck, IsTestFunction, Reads, Stand, StandsInclude, StandsItem, body_words, function_words, tests_of, word as form_word};
 ghost use Rattle.ct_top.specs.Reading.{IsOnly};
 
-use crate::form::{Check, Item, Miss, TestFunction, heading, read_check, word};
+use crate::form::{Check, Item, Miss, TestFunction, heading, next, read_check};
 use ct_base::{Bytes, Items, Mem, OutOfMemory, Token, TokenKind};
 use std::alloc::Global;
 
 /// A file has at most this many test functions.
 const MOST_TESTS: usize = 1000;
+
+/// What follows the closing brace of a body, where it stands at the front.
+fn closed(tokens: &[Token]) -> Option<&[Token]>
+    ensures found { IfSome result (λ rest. Stand (body_words []) tokens.now rest.now) }
+    ensures none { IfNone result ((rest : List token) → Stand (body_words []) tokens.now rest → ⊥) }
+{
+    match next(tokens) {
+        Some((token, rest)) if token.text.as_slice() == b"}".as_slice() => Some(rest),
+        _ => None,
+    }
+}
 
 /// The assertions of a test function and its closing brace, which stand at the front, and what
 /// follows them.
@@ -22,7 +33,7 @@ fn body(alloc: Global, tokens: &[Token]) -> Result<(Items<Check>, &[Token]), Mis
     let mut checks = Items::new(alloc);
     let mut rest = tokens;
     loop {
-        if let Ok((_, after)) = word(rest, b"}") {
+        if let Some(after) = closed(rest) {
             return Ok((checks, after));
         }
         let (check, after) = read_check(alloc, rest)?;
@@ -48,31 +59,42 @@ fn function(alloc: Global, tokens: &[Token]) -> Result<(TestFunction, &[Token]),
     Ok((function, rest))
 }
 
+/// What follows a token of this text, where it stands right at the front.
+fn after_token<'a>(tokens: &'a [Token], text: &[u8]) -> Option<&'a [Token]>
+    ensures found { IfSome result (λ rest. (token : token) × (tokens.now ≡ token ∷ rest.now) × FitAll (form_word text.now ∷ []) (token ∷ [])) }
+    ensures none { IfNone result ((rest : List token) → (token : token) × (tokens.now ≡ token ∷ rest) × FitAll (form_word text.now ∷ []) (token ∷ []) → ⊥) }
+{
+    match tokens.split_first() {
+        Some((token, rest))
+            if !matches!(token.kind, TokenKind::Line) && token.text.as_slice() == text => {
+            Some(rest)
+        }
+        _ => None,
+    }
+}
+
 /// What follows an include line that stands at the front.
 fn include(tokens: &[Token], is_first: bool) -> Option<&[Token]>
     ensures found { IfSome result (λ rest. StandsInclude is_first tokens.now rest.now) }
     ensures none { IfNone result ((rest : List token) → StandsInclude is_first tokens.now rest → ⊥) }
     ensures shorter { IfSome result (λ rest. length rest.now < length tokens.now) }
 {
-    let lines = tokens
-        .iter()
-        .take_while(|token| matches!(token.kind, TokenKind::Line))
-        .count();
-    if lines == 0 && !is_first {
+    if !is_first && !ends_line(tokens) {
         return None;
     }
-    match &tokens[lines..] {
-        [hash, directive, name, rest @ ..]
-            if hash.text.as_slice() == b"#".as_slice()
-                && directive.text.as_slice() == b"include".as_slice()
-                && name.text.as_slice() == b"\"unity.h\"".as_slice()
-                && ends_line(rest) => { Some(rest) }
-        _ => None,
+    let (hash, rest) = next(tokens)?;
+    if hash.text.as_slice() != b"#".as_slice() {
+        return None;
     }
+    let rest = after_token(rest, b"include")?;
+    let rest = after_token(rest, b"\"unity.h\"")?;
+    if ends_line(rest) { Some(rest) } else { None }
 }
 
 /// Whether a line ends at the front of these tokens, or the file does.
-fn ends_line(tokens: &[Token]) -> bool {
+fn ends_line(tokens: &[Token]) -> bool
+    ensures { IsTrue result ↔ EndsLine tokens.now }
+{
     match tokens.first() {
         Some(token) => matches!(token.kind, TokenKind::Line),
         None => true,
@@ -112,7 +134,9 @@ fn next_item<'a>(
 }
 
 /// Whether one of these tests has this name.
-fn has_name(tests: &[TestFunction], name: &[u8]) -> bool {
+fn has_name(tests: &[TestFunction], name: &[u8]) -> bool
+    ensures { IsFalse result ↔ All (λ test. test.name ≢ name.now) tests.now }
+{
     tests.iter().any(|test| test.name.as_slice() == name)
 }
 

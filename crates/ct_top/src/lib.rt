@@ -15,3 +15,4 @@ mod words;
 mod writing;
 
 pub use ct_base::Status;
+pub use top::run;

@@ -1,9 +1,10 @@
 //! Refusals, and the line that says one.
 
 ghost use Rattle.std.specs.Prelude.{◌≡◌, IfOk, string_bytes};
+ghost use Rattle.ct_top.specs.Meaning.{unsupported as unsupported_word};
 ghost use Rattle.ct_top.specs.Project.{refusal, refusal_line};
 
-use ct_base::{Bytes, Mem, Refusal, Text, decimal};
+use ct_base::{Bytes, Mem, Refusal, Text, Token, decimal};
 use std::alloc::Global;
 
 /// The number of each kind of refusal, in the order of refusals.
@@ -13,7 +14,7 @@ pub const SETTINGS: u32 = 2;
 
 pub const LIMIT: u32 = 4;
 
-pub const UNSUPPORTED: u32 = 7;
+const UNSUPPORTED: u32 = 7;
 
 /// A refusal with its parts.
 pub fn refuse(alloc: Global, kind: u32, file: &str, line: u32, text: &[u8]) -> Mem<Refusal>
@@ -27,6 +28,15 @@ pub fn refuse(alloc: Global, kind: u32, file: &str, line: u32, text: &[u8]) -> M
         line,
         text,
     })
+}
+
+/// The refusal of a token that no item of the form reads.
+pub fn unsupported(alloc: Global, path: &str, token: &Token) -> Mem<Refusal>
+    ensures { IfOk result (λ made. made ≡ unsupported_word path.now token.now) }
+{
+    let mut text = Vec::from_slice(alloc, b"Unsupported ")?;
+    text.extend_from_slice(token.text.as_slice())?;
+    refuse(alloc, UNSUPPORTED, path, token.span.line, text.as_slice())
 }
 
 /// The line `ERROR: FILE:LINE: TEXT`.

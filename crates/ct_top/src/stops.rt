@@ -3,7 +3,8 @@
 ghost use Rattle.std.specs.Prelude.{◌≡◌};
 ghost use Rattle.ct_top.specs.declared.stops.Stop.TheVariants.{OutOfMemory as out_of_memory};
 
-use ct_base::Refusal;
+use ct_base::{Fail, Refusal};
+use ct_outside::TreeError;
 use std::alloc::{AllocError, AllocFailed};
 
 /// Why a run stops before its report.
@@ -37,5 +38,31 @@ impl<T: Drop> From<AllocFailed<T>> for Stop {
 
     fn from(_error: AllocFailed<T>) -> Stop {
         Stop::OutOfMemory
+    }
+}
+
+impl From<TreeError> for Stop {
+    ghost use Rattle.ct_top.specs.Stops.{IsStopFor};
+
+    ghost from_gives = { IsStopFor };
+
+    fn from(error: TreeError) -> Stop {
+        match error {
+            TreeError::Failed => Stop::ReadFault,
+            TreeError::OutOfMemory => Stop::OutOfMemory,
+        }
+    }
+}
+
+impl From<Fail<Refusal>> for Stop {
+    ghost use Rattle.ct_top.specs.Stops.{IsStopOf};
+
+    ghost from_gives = { IsStopOf };
+
+    fn from(fail: Fail<Refusal>) -> Stop {
+        match fail {
+            Fail::Fault(refusal) => Stop::Refused(refusal),
+            Fail::OutOfMemory => Stop::OutOfMemory,
+        }
     }
 }

@@ -1,9 +1,9 @@
 //! Writing to the sink.
 
-ghost use Rattle.std.specs.Prelude.{◌≡◌, ◌⊎◌, OnOk, OnErr};
+ghost use Rattle.std.specs.Prelude.{◌≡◌, OnOk, OnErr};
 ghost use Rattle.ct_outside.specs.Counts.{Rose};
 ghost use Rattle.ct_outside.specs.Taken.{Took, TookFront};
-ghost use Rattle.ct_top.specs.Stops.{SinkFaultsAfter};
+ghost use Rattle.ct_top.specs.Stops.{Ends, SinkFaultsAfter};
 ghost use Rattle.ct_base.specs.declared.answers.Status.TheVariants.{OutFault};
 
 use ct_base::Status;
@@ -29,7 +29,7 @@ pub fn write_all<S: Sink>(out: &mut S, text: &[u8]) -> Result<(), SinkFailed>
 /// Writes the text with which a run ends. Its status is this one, or `OutFault`.
 pub fn finish<S: Sink>(out: &mut S, text: &[u8], status: Status) -> Status
     requires { status ≡ OutFault → ⊥ }
-    ensures whole { (result ≡ status) × Took (S.taken out.old) (S.taken out.new) text.now ⊎ (result ≡ OutFault) × TookFront (S.taken out.old) (S.taken out.new) text.now }
+    ensures end { Ends result (S.taken out.old) (S.taken out.new) text.now status }
     ensures faults { SinkFaultsAfter result (S.faults out.old) (S.faults out.new) }
 {
     match write_all(out, text) {

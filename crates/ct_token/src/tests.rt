@@ -1,0 +1,323 @@
+//! The tokens of small texts, worked out by hand from the rules (C11 6.4).
+
+use crate::tokens;
+use ct_base::TokenKind;
+use ct_base::TokenKind::{Char, Line, Name, Number, Other, Punct, Text};
+use std::process::Abort;
+use std::test::Fail;
+
+/// A token: its kind, its bytes, its line, and whether white space stands right before it.
+type Row = (TokenKind, &'static [u8], u32, bool);
+
+/// Compares the tokens of a text, which has the file number 7, with these rows.
+fn compare(rt: &(impl Abort + AllocGlobal), text: &[u8], rows: &[Row]) -> Result<(), Fail> {
+    assert!(rt; text.len() < 1000);
+    let found = tokens(rt.alloc(), 7, text)?;
+    assert_eq!(rt; found.len(), rows.len(), "tokens of {text:?}");
+    for (token, row) in found.iter().zip(rows) {
+        assert_eq!(rt; token.kind, row.0, "in {text:?}");
+        assert_eq!(rt; token.text.as_slice(), row.1, "in {text:?}");
+        assert_eq!(rt; token.span.file, 7);
+        assert_eq!(rt; token.span.line, row.2, "in {text:?}");
+        assert_eq!(rt; token.spaced, row.3, "in {text:?}");
+    }
+    Ok(())
+}
+
+#[test]
+fn names_marks_and_punctuators_are_told_apart(rt: HostRuntime) -> Result<(), Fail> {
+    let table: [(&[u8], &[Row]); 9] = [
+        (b"", &[]),
+        (
+            b"x+1",
+            &[
+                (Name, b"x", 1, false),
+                (Other, b"+", 1, false),
+                (Number, b"1", 1, false),
+            ],
+        ),
+        (
+            b"foo_1 _x9",
+            &[(Name, b"foo_1", 1, false), (Name, b"_x9", 1, true)],
+        ),
+        (
+            b"a.b",
+            &[
+                (Name, b"a", 1, false),
+                (Other, b".", 1, false),
+                (Name, b"b", 1, false),
+            ],
+        ),
+        (
+            b"f(a, b);",
+            &[
+                (Name, b"f", 1, false),
+                (Punct, b"(", 1, false),
+                (Name, b"a", 1, false),
+                (Punct, b",", 1, false),
+                (Name, b"b", 1, true),
+                (Punct, b")", 1, false),
+                (Punct, b";", 1, false),
+            ],
+        ),
+        (b"{ }", &[(Punct, b"{", 1, false), (Punct, b"}", 1, true)]),
+        (b"##", &[(Punct, b"#", 1, false), (Punct, b"#", 1, false)]),
+        (
+            b"a//b",
+            &[
+                (Name, b"a", 1, false),
+                (Other, b"/", 1, false),
+                (Other, b"/", 1, false),
+                (Name, b"b", 1, false),
+            ],
+        ),
+        (
+            b"a->b<<=1",
+            &[
+                (Name, b"a", 1, false),
+                (Other, b"-", 1, false),
+                (Other, b">", 1, false),
+                (Name, b"b", 1, false),
+                (Other, b"<", 1, false),
+                (Other, b"<", 1, false),
+                (Other, b"=", 1, false),
+                (Number, b"1", 1, false),
+            ],
+        ),
+    ];
+    for (text, rows) in table {
+        compare(&rt, text, rows)?;
+    }
+    Ok(())
+}
+
+#[test]
+fn numbers_reach_as_far_as_they_can(rt: HostRuntime) -> Result<(), Fail> {
+    let table: [(&[u8], &[Row]); 13] = [
+        (b"1e+5", &[(Number, b"1e+5", 1, false)]),
+        (
+            b"1e5+",
+            &[(Number, b"1e5", 1, false), (Other, b"+", 1, false)],
+        ),
+        (b".5", &[(Number, b".5", 1, false)]),
+        (
+            b"..5",
+            &[(Other, b".", 1, false), (Number, b".5", 1, false)],
+        ),
+        (
+            b"0x1p-3+1",
+            &[
+                (Number, b"0x1p-3", 1, false),
+                (Other, b"+", 1, false),
+                (Number, b"1", 1, false),
+            ],
+        ),
+        (b"0xE+1", &[(Number, b"0xE+1", 1, false)]),
+        (b"1.2.3", &[(Number, b"1.2.3", 1, false)]),
+        (
+            b"1+-2",
+            &[
+                (Number, b"1", 1, false),
+                (Other, b"+", 1, false),
+                (Other, b"-", 1, false),
+                (Number, b"2", 1, false),
+            ],
+        ),
+        (
+            b"5e+-1",
+            &[
+                (Number, b"5e+", 1, false),
+                (Other, b"-", 1, false),
+                (Number, b"1", 1, false),
+            ],
+        ),
+        (b"9_lives", &[(Number, b"9_lives", 1, false)]),
+        (b".x", &[(Other, b".", 1, false), (Name, b"x", 1, false)]),
+        (b".5.", &[(Number, b".5.", 1, false)]),
+        (b".", &[(Other, b".", 1, false)]),
+    ];
+    for (text, rows) in table {
+        compare(&rt, text, rows)?;
+    }
+    Ok(())
+}
+
+#[test]
+fn quotes_are_closed_on_their_line_or_stand_alone(rt: HostRuntime) -> Result<(), Fail> {
+    let table: [(&[u8], &[Row]); 18] = [
+        (b"\"a b\"", &[(Text, b"\"a b\"", 1, false)]),
+        (
+            b"\"a\nb\"",
+            &[
+                (Other, b"\"", 1, false),
+                (Name, b"a", 1, false),
+                (Line, b"\n", 1, false),
+                (Name, b"b", 2, false),
+                (Other, b"\"", 2, false),
+            ],
+        ),
+        (
+            b"\"a\\\"b\"",
+            &[
+                (Other, b"\"", 1, false),
+                (Name, b"a", 1, false),
+                (Other, b"\\", 1, false),
+                (Text, b"\"b\"", 1, false),
+            ],
+        ),
+        (b"'a'", &[(Char, b"'a'", 1, false)]),
+        (b"''", &[(Other, b"'", 1, false), (Other, b"'", 1, false)]),
+        (b"'ab'", &[(Char, b"'ab'", 1, false)]),
+        (
+            b"'''",
+            &[
+                (Other, b"'", 1, false),
+                (Other, b"'", 1, false),
+                (Other, b"'", 1, false),
+            ],
+        ),
+        (
+            b"''x'",
+            &[(Other, b"'", 1, false), (Char, b"'x'", 1, false)],
+        ),
+        (b"\"\"", &[(Text, b"\"\"", 1, false)]),
+        (b"\"it's\"", &[(Text, b"\"it's\"", 1, false)]),
+        (b"'\"'", &[(Char, b"'\"'", 1, false)]),
+        (b"x\"", &[(Name, b"x", 1, false), (Other, b"\"", 1, false)]),
+        (b"'", &[(Other, b"'", 1, false)]),
+        (
+            b"\"a\"\"b\"",
+            &[(Text, b"\"a\"", 1, false), (Text, b"\"b\"", 1, false)],
+        ),
+        (
+            b"\"ab",
+            &[(Other, b"\"", 1, false), (Name, b"ab", 1, false)],
+        ),
+        (b"L'a'", &[(Name, b"L", 1, false), (Char, b"'a'", 1, false)]),
+        (
+            b"'\\n'",
+            &[
+                (Other, b"'", 1, false),
+                (Other, b"\\", 1, false),
+                (Name, b"n", 1, false),
+                (Other, b"'", 1, false),
+            ],
+        ),
+        (
+            b"#include \"unity.h\"\n",
+            &[
+                (Punct, b"#", 1, false),
+                (Name, b"include", 1, false),
+                (Text, b"\"unity.h\"", 1, true),
+                (Line, b"\n", 1, false),
+            ],
+        ),
+    ];
+    for (text, rows) in table {
+        compare(&rt, text, rows)?;
+    }
+    Ok(())
+}
+
+#[test]
+fn white_space_and_lines_are_counted(rt: HostRuntime) -> Result<(), Fail> {
+    let table: [(&[u8], &[Row]); 8] = [
+        (b"\ta", &[(Name, b"a", 1, true)]),
+        (
+            b"a\x0bb\x0cc",
+            &[
+                (Name, b"a", 1, false),
+                (Name, b"b", 1, true),
+                (Name, b"c", 1, true),
+            ],
+        ),
+        (b" \t ", &[]),
+        (b"\n", &[(Line, b"\n", 1, false)]),
+        (
+            b"a\r\nb",
+            &[
+                (Name, b"a", 1, false),
+                (Other, b"\r", 1, false),
+                (Line, b"\n", 1, false),
+                (Name, b"b", 2, false),
+            ],
+        ),
+        (
+            b"a \n  b\n\nc",
+            &[
+                (Name, b"a", 1, false),
+                (Line, b"\n", 1, true),
+                (Name, b"b", 2, true),
+                (Line, b"\n", 2, false),
+                (Line, b"\n", 3, false),
+                (Name, b"c", 4, false),
+            ],
+        ),
+        (
+            b"int x;\n\treturn 0;\n",
+            &[
+                (Name, b"int", 1, false),
+                (Name, b"x", 1, true),
+                (Punct, b";", 1, false),
+                (Line, b"\n", 1, false),
+                (Name, b"return", 2, true),
+                (Number, b"0", 2, true),
+                (Punct, b";", 2, false),
+                (Line, b"\n", 2, false),
+            ],
+        ),
+        (
+            b"a\\\nb",
+            &[
+                (Name, b"a", 1, false),
+                (Other, b"\\", 1, false),
+                (Line, b"\n", 1, false),
+                (Name, b"b", 2, false),
+            ],
+        ),
+    ];
+    for (text, rows) in table {
+        compare(&rt, text, rows)?;
+    }
+    Ok(())
+}
+
+#[test]
+fn each_other_byte_is_a_token(rt: HostRuntime) -> Result<(), Fail> {
+    let table: [(&[u8], &[Row]); 6] = [
+        (
+            b"a\0b",
+            &[
+                (Name, b"a", 1, false),
+                (Other, b"\0", 1, false),
+                (Name, b"b", 1, false),
+            ],
+        ),
+        (
+            b"\xc3\xa9x",
+            &[
+                (Other, b"\xc3", 1, false),
+                (Other, b"\xa9", 1, false),
+                (Name, b"x", 1, false),
+            ],
+        ),
+        (b"\xff", &[(Other, b"\xff", 1, false)]),
+        (b"\"\xc3\xa9\"", &[(Text, b"\"\xc3\xa9\"", 1, false)]),
+        (
+            b"@ $`",
+            &[
+                (Other, b"@", 1, false),
+                (Other, b"$", 1, true),
+                (Other, b"`", 1, false),
+            ],
+        ),
+        (
+            b"\x7f\x01",
+            &[(Other, b"\x7f", 1, false), (Other, b"\x01", 1, false)],
+        ),
+    ];
+    for (text, rows) in table {
+        compare(&rt, text, rows)?;
+    }
+    Ok(())
+}
