@@ -1,1 +1,3 @@
+mod ListingLemmas
+mod PathLemmas
 mod StoredLemmas

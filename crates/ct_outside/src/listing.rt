@@ -1,19 +1,40 @@
 //! The direct entries of a folder of files in memory.
 
-ghost use Rattle.std.specs.Prelude.{◌≡◌, ◌⊎◌, ◌↔◌, Some, IfOk, OnOk, IsTrue};
+ghost use Rattle.std.specs.Prelude.{◌≡◌, ◌⊎◌, ◌↔◌, Some, IfOk, IfErr, OnOk, OnErr, IsTrue};
 ghost use Rattle.std.specs.Option.{option_copied};
 ghost use Rattle.std.specs.List.{Contains, before_first, list_any};
-ghost use Rattle.ct_outside.specs.Files.{EachOnce, IsListing, entry_at, is_slash, rest_below};
+ghost use Rattle.ct_outside.specs.Files.{EachOnce, IsListing, Leaves, ListsFolder, entry_at, is_slash, rest_below};
 ghost use Rattle.ct_outside.specs.Stored.{files_of};
 ghost use Rattle.ct_outside.specs.declared.tree.Entry.{Entry};
 
 use crate::stored::StoredFile;
-use crate::tree::Entry;
+use crate::tree::{Entry, Found, TreeError};
 use ct_base::{Mem, Text};
 use std::alloc::Global;
 
+/// Appends the direct entries of a folder.
+pub fn append_entries(
+    alloc: Global,
+    files: &[StoredFile],
+    folder: &str,
+    into: &mut Vec<Entry>,
+) -> Result<Found, TreeError>
+    ensures told { IfOk result (λ found.
+        ListsFolder (files_of files.now) folder.now found into.old.items into.new.items) }
+    ensures left { Leaves result into.old.items into.new.items }
+    ensures kept { OnErr result (into.new.items ≡ into.old.items) }
+    ensures memory { IfErr result (λ error. error ≡ TreeError.OutOfMemory) }
+{
+    let mut entries = entries_of(alloc, files, folder)?;
+    if entries.is_empty() {
+        return Ok(Found::Absent);
+    }
+    into.append(&mut entries)?;
+    Ok(Found::There)
+}
+
 /// The direct entries of a folder, in the order of their first files.
-pub fn entries_of(alloc: Global, files: &[StoredFile], folder: &str) -> Mem<Vec<Entry>>
+fn entries_of(alloc: Global, files: &[StoredFile], folder: &str) -> Mem<Vec<Entry>>
     ensures { IfOk result (λ entries. IsListing (files_of files.now) folder.now entries.items) }
 {
     let mut entries = Vec::new(alloc);

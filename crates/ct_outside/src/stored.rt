@@ -1,11 +1,13 @@
 //! Files in memory: a list in which no order is kept.
 
-ghost use Rattle.std.specs.Prelude.{◌≡◌, ◌<◌, None, OnOk, OnErr, MatchOption, length, take, slice_index_or};
+ghost use Rattle.std.specs.Prelude.{◌≡◌, ◌<◌, None, IfOk, IfErr, OnOk, OnErr, MatchOption, length, take, slice_index_or};
 ghost use Rattle.std.specs.Option.{option_copied};
 ghost use Rattle.std.specs.FinMap.{get, insert};
+ghost use Rattle.ct_outside.specs.Files.{ReadsFile, Leaves};
 ghost use Rattle.ct_outside.specs.Stored.{files_of};
 ghost use Rattle.ct_outside.specs.declared.stored.StoredFile.{StoredFile};
 
+use crate::tree::{Found, TreeError};
 use ct_base::{Bytes, Mem, Text};
 use std::alloc::Global;
 
@@ -54,4 +56,27 @@ pub fn set_file(alloc: Global, files: &mut Vec<StoredFile>, path: &str, bytes: &
         }
     }
     Ok(())
+}
+
+/// Appends the bytes of the file at a path, where it has at most `limit`.
+pub fn append_file(
+    files: &[StoredFile],
+    path: &str,
+    limit: u64,
+    into: &mut Vec<u8>,
+) -> Result<Found, TreeError>
+    ensures told { IfOk result (λ found.
+        ReadsFile (files_of files.now) path.now limit found into.old.items into.new.items) }
+    ensures left { Leaves result into.old.items into.new.items }
+    ensures kept { OnErr result (into.new.items ≡ into.old.items) }
+    ensures memory { IfErr result (λ error. error ≡ TreeError.OutOfMemory) }
+{
+    let Some(bytes) = bytes_at(files, path) else {
+        return Ok(Found::Absent);
+    };
+    if bytes.len() as u64 > limit {
+        return Ok(Found::TooLarge);
+    }
+    into.extend_from_slice(bytes)?;
+    Ok(Found::There)
 }

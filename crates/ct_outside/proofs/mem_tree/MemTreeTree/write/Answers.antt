@@ -1,0 +1,5 @@
+use Rattle.std.proofs.Common.{rules, refl}
+use Rattle.ct_outside.proofs.mem_tree.MemTreeTree.write.Goals as goal
+
+pub returns-then-is_named-clause-failed : goal.returns-then-is_named-clause-failed
+returns-then-is_named-clause-failed c = (λ _. search rules, λ _. refl)
