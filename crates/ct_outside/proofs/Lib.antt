@@ -1,3 +1,4 @@
 mod ListingLemmas
+mod NamedLemmas
 mod PathLemmas
 mod StoredLemmas

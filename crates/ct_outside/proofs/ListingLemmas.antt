@@ -6,7 +6,7 @@ use Rattle.std.specs.FinMap.{get, get-empty}
 use Rattle.std.proofs.lemmas.Bool.{false≢true}
 use Rattle.std.proofs.lemmas.List.{take_more}
 use Rattle.std.proofs.lemmas.List.Elements.{Contains-push_cases}
-use Rattle.ct_outside.specs.Files.{Files, EachOnce, IsEntry, IsListing, entry_at}
+use Rattle.ct_outside.specs.Files.{Files, EachOnce, IsEntry, IsFolder, IsListing, entry_at}
 use Rattle.ct_outside.specs.Stored.{files_of}
 use Rattle.ct_outside.specs.declared.stored.StoredFile.{StoredFile}
 use Rattle.ct_outside.specs.declared.tree.Entry.{Entry}
@@ -85,3 +85,12 @@ IsListing-more fs i f folder old new l read listing each once =
     let P : List StoredFile → Type 0 = λ gs. IsListing (files_of gs) folder new in
     subst P (sym (take_more fs i f l ∙ ap (λ (g : StoredFile). take i fs ++ g ∷ []) (sym read)))
     (IsListing-push (take i fs) f folder old new listing each once)
+
+-- a listing with no entries is that of no folder
+pub not-IsFolder : (files : Files) (folder : List ℕ) (entries : List Entry) → length entries ≡ 0 → IsListing files folder entries → IsFolder files folder → ⊥
+not-IsFolder files folder entries none listing h = let at = (listing.each h.0).1 h.1 in omega (arith, at.1)
+
+-- a listing with an entry is that of a folder
+pub IsFolder-from_listing : (files : Files) (folder : List ℕ) (entries : List Entry) → (length entries ≡ 0 → ⊥) → IsListing files folder entries → IsFolder files folder
+IsFolder-from_listing files folder [] some listing = absurd (some refl)
+IsFolder-from_listing files folder (entry ∷ entries) some listing = (entry, (listing.each entry).0 (0, omega arith, refl))
