@@ -1,23 +1,24 @@
 -- The entries of a folder, as one more file is looked at.
-use Rattle.std.proofs.Common.{◌≡◌, ℕ, suc, ◌<◌, ◌+◌, ◌⊎◌, inl, inr, ◌↔◌, Bool, true, false, cond, List, [], ◌∷◌, ◌++◌, length, get_or, take, refl, sym, ap, subst, ◌∙◌, arith, nat_cmp, is_some, Option, Some, None, IsSome}
+use Rattle.std.proofs.Common.{◌≡◌, ℕ, suc, ◌<◌, ◌+◌, ◌⊎◌, inl, inr, ◌↔◌, true, false, List, [], ◌∷◌, ◌++◌, length, get_or, take, refl, sym, ap, subst, ◌∙◌, arith, nat_cmp, is_some, Some, IsSome}
 use Rattle.std.specs.List.{Contains}
 use Rattle.std.specs.Cmp.Lexicographic.{slice_cmp}
 use Rattle.std.specs.FinMap.{get, get-empty}
 use Rattle.std.proofs.lemmas.Bool.{false≢true}
 use Rattle.std.proofs.lemmas.List.{take_more}
 use Rattle.std.proofs.lemmas.List.Elements.{Contains-push_cases}
-use Rattle.ct_outside.specs.Files.{Files, EachOnce, IsEntry, IsFolder, IsListing, entry_at}
+use Rattle.ct_outside.specs.Files.{Files, EachOnce, IsFolder, IsListing, entry_at}
 use Rattle.ct_outside.specs.Stored.{files_of}
 use Rattle.ct_outside.specs.declared.stored.StoredFile.{StoredFile}
 use Rattle.ct_outside.specs.declared.tree.Entry.{Entry}
-use Rattle.ct_outside.proofs.StoredLemmas.{same_path, equal_paths, get_insert, get-head, get-head_other}
+use Rattle.ct_outside.proofs.StoredLemmas.{same_path, equal_paths, get-head, get-head_other}
 
 -- one more entry that was not there
 pub EachOnce-push : (entries : List Entry) (entry : Entry) → (Contains entries entry → ⊥) → EachOnce entries → EachOnce (entries ++ entry ∷ [])
 EachOnce-push [] entry n once = (λ h. omega (arith, h.1), tt)
-EachOnce-push (first ∷ entries) entry n once =
-    (λ h. elim (Contains-push_cases entries entry first h) [ inl more ↦ once.0 more | inr same ↦ n (0, omega arith, sym same) ],
-     EachOnce-push entries entry (λ h. n (suc h.0, omega (arith, h.1), h.2)) once.1)
+EachOnce-push (first ∷ entries) entry n once = (
+  λ h. elim (Contains-push_cases entries entry first h) [ inl more ↦ once.0 more | inr same ↦ n (0, omega arith, sym same) ],
+  EachOnce-push entries entry (λ h. n (suc h.0, omega (arith, h.1), h.2)) once.1,
+)
 
 -- no files, no entries
 pub IsListing-none : (folder : List ℕ) → IsListing (files_of []) folder []
@@ -75,7 +76,8 @@ IsListing-push fs f folder old new listing each once = record {
     λ h. (each entry).1 (elim (push_cases fs f h.0 h.1) [
       | inl there ↦ inl ((listing.each entry).1 (h.0, there, h.2))
       | inr own ↦ inr (ap (entry_at folder) own ∙ h.2)
-    ]));
+    ]),
+  );
   once = once listing.once;
 }
 

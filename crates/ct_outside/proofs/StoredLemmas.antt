@@ -1,11 +1,11 @@
 -- How a list of files answers as a map, as one of its files changes or one is added.
-use Rattle.std.proofs.Common.{◌≡◌, ℕ, zero, suc, ◌+◌, ◌<◌, Bool, true, false, cond, List, [], ◌∷◌, ◌++◌, map, length, get_or, set, take, refl, sym, ap, ◌∙◌, arith, Option, Some, None}
+use Rattle.std.proofs.Common.{◌≡◌, ℕ, zero, suc, ◌+◌, ◌<◌, Bool, true, false, cond, List, [], ◌∷◌, ◌++◌, length, get_or, set, take, refl, sym, ap, ◌∙◌, arith, Option, Some, None}
 use Rattle.std.specs.Ordering.{nat_cmp, eq_by_cmp}
 use Rattle.std.specs.Cmp.Lexicographic.{slice_cmp}
-use Rattle.std.specs.Cmp.{IsTotalOrder, Equal-is}
+use Rattle.std.specs.Cmp.{Equal-is}
 use Rattle.std.proofs.lemmas.Cmp.{nat_list_cmp_total, tied_itself}
 use Rattle.std.proofs.lemmas.List.{take_more}
-use Rattle.std.specs.FinMap.{FinMap, IsAntisymmetric, slice_cmp-IsAntisymmetric, nat_cmp-IsAntisymmetric, get, insert, from_entries, get-insert, get-from_entries, same_map, from_entries_push, gets}
+use Rattle.std.specs.FinMap.{IsAntisymmetric, slice_cmp-IsAntisymmetric, nat_cmp-IsAntisymmetric, get, insert, get-insert, same_map}
 use Rattle.ct_outside.specs.Files.{Files}
 use Rattle.ct_outside.specs.Stored.{files_of}
 use Rattle.ct_outside.specs.declared.stored.StoredFile.{StoredFile}
@@ -50,8 +50,8 @@ turned false b v w o n = refl
 pub insert_turned : (m : Files) (k v j w : List ℕ) → (k ≡ j → ⊥) → insert (insert m k v) j w ≡ insert (insert m j w) k v
 insert_turned m k v j w n =
     same_map nat_list_cmp_total alike _ _ (λ q.
-        rw (get_insert (insert m k v) j w q, get_insert m k v q, get_insert (insert m j w) k v q, get_insert m j w q)
-            (turned (same_path q k) (same_path q j) (Some v) (Some w) (get m q) (λ a b. n (sym (equal_paths q k a) ∙ equal_paths q j b))))
+    rw (get_insert (insert m k v) j w q, get_insert m k v q, get_insert (insert m j w) k v q, get_insert m j w q)
+    (turned (same_path q k) (same_path q j) (Some v) (Some w) (get m q) (λ a b. n (sym (equal_paths q k a) ∙ equal_paths q j b))))
 
 hit : (b : Bool) (v : List ℕ) (o : Option (List ℕ)) → cond b (Some v) o ≡ None → (b ≡ false) × (o ≡ None)
 hit true v o e = absurd (cc)

@@ -6,6 +6,8 @@ mod mem_sink;
 mod mem_tree;
 mod sink;
 mod stored;
+#[cfg(test)]
+mod tests;
 mod tree;
 
 pub use mem_sink::MemSink;

@@ -65,9 +65,7 @@ fn add_entry(alloc: Global, folder: &str, path: &str, entries: &mut Vec<Entry>) 
 fn has_entry(entries: &[Entry], name: &str, folder: bool) -> bool
     ensures { IsTrue result ↔ Contains entries.now (record { name = name.now; folder = folder }) }
 {
-    entries
-        .iter()
-        .any(|entry| entry.folder == folder && entry.name.as_str() == name)
+    entries.iter().any(|entry| entry.folder == folder && entry.name.as_str() == name)
 }
 
 /// The rest of a path that lies below a folder.

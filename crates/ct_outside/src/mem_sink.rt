@@ -27,11 +27,11 @@ impl Model for MemSink {
     ghost Value = { SinkState };
 
     ghost view = { λ sink. record {
-        taken = sink.taken.items;
-        room = sink.room;
-        failing = sink.failing.items;
-        writes = sink.writes;
-        faults = sink.faults
+      taken = sink.taken.items;
+      room = sink.room;
+      failing = sink.failing.items;
+      writes = sink.writes;
+      faults = sink.faults;
     } };
 
     ghost invariant = { λ sink. (vec_len sink.taken ≤ sink.room) × (sink.room ≤ vec_capacity sink.taken) };
@@ -42,11 +42,11 @@ impl MemSink {
     /// from 1 on.
     pub fn new(alloc: Global, room: usize, failing: Vec<u64>) -> Mem<MemSink>
         ensures { IfOk result (λ sink. sink ≡ record {
-            taken = [];
-            room = room;
-            failing = failing.items;
-            writes = 0;
-            faults = 0
+          taken = [];
+          room = room;
+          failing = failing.items;
+          writes = 0;
+          faults = 0;
         }) }
     {
         let taken = Vec::with_capacity(alloc, room)?;
@@ -76,12 +76,12 @@ impl Sink for MemSink {
         ensures fails { IsErr result ↔ WriteFails self.old piece.now }
         ensures as_many_as_fit { IfOk result (λ count. count ≡ min (length piece.now) (room_left self.old)) }
         ensures state { IfOk result (λ count. self.new ≡ record self.old {
-            taken = self.old.taken ++ take count piece.now;
-            writes = raised self.old.writes
+          taken = self.old.taken ++ take count piece.now;
+          writes = raised self.old.writes;
         }) }
         ensures failed_state { OnErr result (self.new ≡ record self.old {
-            writes = raised self.old.writes;
-            faults = raised self.old.faults
+          writes = raised self.old.writes;
+          faults = raised self.old.faults;
         }) }
     {
         self.writes = self.writes.saturating_add(1);

@@ -46,13 +46,13 @@ impl Model for MemTree {
     ghost coded = { Prim.hlevel (codes, files_code) };
 
     ghost view = { λ tree. record {
-        files = files_of tree.files.items;
-        failing = tree.failing.items;
-        lists = tree.lists;
-        reads = tree.reads;
-        writes = tree.writes;
-        read_faults = tree.read_faults;
-        write_faults = tree.write_faults
+      files = files_of tree.files.items;
+      failing = tree.failing.items;
+      lists = tree.lists;
+      reads = tree.reads;
+      writes = tree.writes;
+      read_faults = tree.read_faults;
+      write_faults = tree.write_faults;
     } };
 }
 
@@ -61,13 +61,13 @@ impl MemTree {
     /// on, and fails.
     pub fn new(alloc: Global, failing: Vec<(TreeCall, u64)>) -> MemTree
         ensures { result ≡ record {
-            files = empty;
-            failing = failing.items;
-            lists = 0;
-            reads = 0;
-            writes = 0;
-            read_faults = 0;
-            write_faults = 0
+          files = empty;
+          failing = failing.items;
+          lists = 0;
+          reads = 0;
+          writes = 0;
+          read_faults = 0;
+          write_faults = 0;
         } }
     {
         MemTree {
@@ -118,8 +118,8 @@ impl Tree for MemTree {
         ensures failed { (result ≡ Err TreeError.Failed)
             ↔ Contains self.old.failing (TreeCall.List, raised self.old.lists) }
         ensures state { self.new ≡ record self.old {
-            lists = raised self.old.lists;
-            read_faults = faults_after result self.old.read_faults
+          lists = raised self.old.lists;
+          read_faults = faults_after result self.old.read_faults;
         } }
     {
         self.lists = self.lists.saturating_add(1);
@@ -145,8 +145,8 @@ impl Tree for MemTree {
         ensures failed { (result ≡ Err TreeError.Failed)
             ↔ Contains self.old.failing (TreeCall.Read, raised self.old.reads) }
         ensures state { self.new ≡ record self.old {
-            reads = raised self.old.reads;
-            read_faults = faults_after result self.old.read_faults
+          reads = raised self.old.reads;
+          read_faults = faults_after result self.old.read_faults;
         } }
     {
         self.reads = self.reads.saturating_add(1);
@@ -161,12 +161,12 @@ impl Tree for MemTree {
         ensures failed { (result ≡ Err TreeError.Failed)
             ↔ Contains self.old.failing (TreeCall.Write, raised self.old.writes) }
         ensures written { OnOk result (self.new ≡ record self.old {
-            files = insert self.old.files path.now bytes.now;
-            writes = raised self.old.writes
+          files = insert self.old.files path.now bytes.now;
+          writes = raised self.old.writes;
         }) }
         ensures not_written { OnErr result (self.new ≡ record self.old {
-            writes = raised self.old.writes;
-            write_faults = faults_after result self.old.write_faults
+          writes = raised self.old.writes;
+          write_faults = faults_after result self.old.write_faults;
         }) }
     {
         self.writes = self.writes.saturating_add(1);

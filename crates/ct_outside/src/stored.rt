@@ -22,7 +22,7 @@ pub struct StoredFile {
 fn place_of(files: &[StoredFile], path: &str) -> Option<usize>
     ensures { MatchOption result (get (files_of files.now) path.now ≡ None) (λ place.
         (place < length files.now) × (get (files_of (take place files.now)) path.now ≡ None)
-            × ((d : StoredFile) → (slice_index_or files.now place d).path ≡ path.now)) }
+        × ((d : StoredFile) → (slice_index_or files.now place d).path ≡ path.now)) }
 {
     for (place, file) in files.iter().enumerate() {
         if file.path.as_str() == path {

@@ -1,4 +1,4 @@
-use Rattle.std.proofs.Common.{rules, ℕ, List, ◌++◌, arith, sym, ap, ◌∙◌, refl}
+use Rattle.std.proofs.Common.{rules, ℕ, List, ◌++◌, arith, sym, ap, ◌∙◌}
 use Rattle.std.specs.Option.{option_copied}
 use Rattle.std.proofs.lemmas.Str.Pattern.{strip_prefix_char}
 use Rattle.ct_outside.proofs.PathLemmas.{rest_none, rest_from_strips}

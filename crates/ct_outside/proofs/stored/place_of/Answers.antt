@@ -1,7 +1,6 @@
-use Rattle.std.proofs.Common.{◌≡◌, rules, nat_cmp}
+use Rattle.std.proofs.Common.{rules, nat_cmp}
 use Rattle.std.specs.Cmp.Lexicographic.{slice_cmp}
 use Rattle.std.specs.FinMap.{get-empty}
-use Rattle.std.proofs.lemmas.Slice.Eq.{bytes_eq-Decides}
 use Rattle.ct_outside.proofs.StoredLemmas.{absent-more}
 use Rattle.ct_outside.proofs.stored.place_of.Goals as goal
 

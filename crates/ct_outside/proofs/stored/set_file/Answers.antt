@@ -1,5 +1,3 @@
-use Rattle.std.proofs.Common.{ap, ◌∙◌}
-use Rattle.ct_outside.specs.Stored.{files_of}
 use Rattle.ct_outside.proofs.StoredLemmas.{set-read, files_of-push}
 use Rattle.ct_outside.proofs.stored.set_file.Goals as goal
 
