@@ -1,0 +1,4 @@
+mod ListingLemmas
+mod NamedLemmas
+mod PathLemmas
+mod StoredLemmas

@@ -13,3 +13,13 @@ abbrev pub CountAfter : {A : Type 0} → Result A TreeError → ℕ → ℕ → 
 CountAfter (Ok answer) before now = now ≡ before
 CountAfter (Err OutOfMemory) before now = now ≡ before
 CountAfter (Err Failed) before now = Rose before now
+
+-- a count of calls or of faults after one more, which stands still at 2 ^ 64 - 1
+abbrev pub raised : ℕ → ℕ
+raised count = min (count + 1) (2 ^ 64 - 1)
+
+-- the count of faults that a call leaves: one more where it failed, and else the same
+abbrev pub faults_after : {A : Type 0} → Result A TreeError → ℕ → ℕ
+faults_after (Ok answer) faults = faults
+faults_after (Err OutOfMemory) faults = faults
+faults_after (Err Failed) faults = raised faults

@@ -3,9 +3,10 @@
 ghost use Rattle.std.specs.Prelude.{◌≡◌, ℕ, ◌+◌, ◌≤◌, List, Option, IfOk, IfSome, OnOk, OnErr, vec_len};
 ghost use Rattle.ct_outside.specs.Counts.{CountAfter};
 ghost use Rattle.ct_outside.specs.Files.{Files, Leaves, ListsFolder, ReadsFile, SetsFile};
+ghost use Rattle.ct_outside.specs.declared.tree.TreeError.TheVariants.{OutOfMemory as out_of_memory};
 
-use ct_base::Text;
-use std::alloc::Global;
+use ct_base::{OutOfMemory, Text};
+use std::alloc::{AllocError, Global};
 
 /// An entry of a folder: its name, and whether it is a folder itself.
 #[derive(Debug, Drop)]
@@ -29,6 +30,22 @@ pub enum TreeError {
     /// The tree failed, and its count of faults rose.
     Failed,
     OutOfMemory,
+}
+
+impl From<OutOfMemory> for TreeError {
+    ghost from_gives = { λ _ error. error ≡ out_of_memory };
+
+    fn from(_error: OutOfMemory) -> TreeError {
+        TreeError::OutOfMemory
+    }
+}
+
+impl From<AllocError> for TreeError {
+    ghost from_gives = { λ _ error. error ≡ out_of_memory };
+
+    fn from(_error: AllocError) -> TreeError {
+        TreeError::OutOfMemory
+    }
 }
 
 /// A tree of files. Paths use `/`, are relative to the tree's root, and have no empty, `.` or `..`
