@@ -1,5 +1,5 @@
 -- The report, as a function of the logs.
-use Rattle.std.specs.Prelude.{◌≡◌, ℕ, ◌==◌, Bool, true, false, List, [], ◌∷◌, ◌++◌, map, flat_map, length, count_by, sum_by, codes, decimal, if◌then◌else◌}
+use Rattle.std.specs.Prelude.{◌≡◌, ℕ, Bool, true, false, List, [], ◌∷◌, ◌++◌, flat_map, length, count_by, codes, decimal, if◌then◌else◌}
 use Rattle.std.specs.List.{list_any}
 use Rattle.ct_base.specs.declared.answers.Status.{Status}
 use Rattle.ct_base.specs.declared.answers.Status.TheVariants.{Passed, Failed}
@@ -8,6 +8,11 @@ use Rattle.ct_report.specs.declared.logs.Verdict.TheVariants.{Pass, Fail, Ignore
 use Rattle.ct_report.specs.declared.logs.Info.{Info}
 use Rattle.ct_report.specs.declared.logs.TestLine.{TestLine}
 use Rattle.ct_report.specs.declared.logs.RunLog.{RunLog}
+
+-- the text begins with what it was
+pub record Extends (old new : List ℕ) : Type 0 where
+  pub more : List ℕ
+  pub is : new ≡ old ++ more
 
 abbrev pub newline : List ℕ
 newline = 10 ∷ []

@@ -1,8 +1,12 @@
 //! The report of a run.
 #![tactic(auto)]
 
+mod counts;
 mod logs;
+#[cfg(test)]
+mod tests;
 mod writing;
 
+pub use counts::status;
 pub use logs::{Info, RunLog, TestLine, Verdict};
-pub use writing::{footer, lines, status, summary};
+pub use writing::{footer, lines, summary};
