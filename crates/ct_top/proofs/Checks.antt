@@ -38,7 +38,7 @@ number-stands ts n rest e =
     let g = bound (int_of f.0.0.text) (λ m. Some (m, f.0.1)) (n, rest) f.2 in
     let same = some_pair g.0 n f.0.1 rest g.2 in
     let d = int_of-is f.0.0.text g.0 g.1 in
-    (f.0.0, f.1 ∙ ap (λ r. Some (f.0.0, r)) same.1, d.1 ∙ ap decimal same.0, subst (λ m. m ≤ int_max) same.0 d.0)
+    (f.0.0, subst (λ r. first_word ts ≡ Some (f.0.0, r)) same.1 f.1, d.1 ∙ ap decimal same.0, subst (λ m. m ≤ int_max) same.0 d.0)
 
 number-reads : (ts : List Token) (t : Token) (n : ℕ) (rest : List Token) → first_word ts ≡ Some (t, rest) → t.text ≡ decimal n → n ≤ int_max
     → number_of ts ≡ Some (n, rest)

@@ -10,4 +10,7 @@ mod Reading
 mod Sequence
 mod Spelling
 mod Standing
+mod Stopping
 mod Taken
+mod Texts
+mod Unique

@@ -1,6 +1,9 @@
 -- The logs of the files that were run so far.
 use Rattle.std.proofs.Common.{◌≡◌, ℕ, zero, suc, ◌+◌, ◌<◌, List, [], ◌∷◌, ◌++◌, length, get_or, drop, refl, sym, ap, subst, ◌∙◌, append_assoc, append-nil, arith, add-one}
 use Rattle.std.specs.Prelude.{Result, Ok, Err}
+use Rattle.ct_base.specs.Answers.{IfFault, OnAnswer}
+use Rattle.ct_base.specs.declared.memory.Fail.{Fail}
+use Rattle.ct_base.specs.declared.memory.Fail.TheVariants.{Fault, OutOfMemory}
 use Rattle.ct_base.specs.declared.refusals.Refusal.{Refusal}
 use Rattle.ct_report.specs.declared.logs.RunLog.{RunLog}
 use Rattle.ct_top.specs.declared.files.TestFile.{TestFile}
@@ -51,3 +54,17 @@ pub ran_all : (files : List TestFile) (i : ℕ) (logs : List RunLog) → drop i 
     → FilesMean files (Ok logs)
 ran_all files i logs end so_far =
     subst (λ ls. FilesMean files (Ok ls)) (append-nil logs) (so_far (Ok []) (subst (λ fs. FilesMean fs (Ok [])) (sym end) refl))
+
+-- what running a file says, by the file's own path and text
+pub of_file : (file : TestFile) (path text : List ℕ) (answer : Result RunLog Refusal) → path ≡ file.path → text ≡ file.text
+    → FileMeans path text answer → FileMeans file.path file.text answer
+of_file file path text answer p q means = subst (λ t. FileMeans file.path t answer) q (subst (λ n. FileMeans n text answer) p means)
+
+-- running a file failed
+pub failed_here : (T : Type 0) (files : List TestFile) (i : ℕ) (file : TestFile) (path text : List ℕ) (logs : List RunLog) (f : Fail Refusal)
+    → i < length files → file ≡ get_or files i file → path ≡ file.path → text ≡ file.text
+    → OnAnswer {T = RunLog} (Err f) (FileMeans path text) → ((o : Outcome) → FilesMean (drop i files) o → FilesMean files (behind logs o))
+    → IfFault {T = T} (Err f) (λ refusal. FilesMean files (Err refusal))
+failed_here T files i file path text logs (Fault refusal) within is p q means so_far =
+    refused_here files i file logs refusal within is (of_file file path text (Err refusal) p q means) so_far
+failed_here T files i file path text logs OutOfMemory within is p q means so_far = tt
