@@ -1,6 +1,6 @@
 //! What an error of the system means.
 
-ghost use Rattle.std.specs.Prelude.{◌≡◌};
+ghost use Rattle.std.specs.Prelude.{◌≡◌, ◌+◌, ◌-◌, ◌^◌, min};
 ghost use Rattle.std.specs.IoError.{error_kind};
 ghost use Rattle.ct_cli.specs.Systems.{cause_at};
 
@@ -25,4 +25,11 @@ pub fn cause_of(error: &io::Error) -> Cause
         ErrorKind::OutOfMemory => Cause::OutOfMemory,
         _ => Cause::System,
     }
+}
+
+/// Counts a fault, up to 2 ^ 64 - 1.
+pub fn raise(count: &mut u64)
+    ensures { count.new ≡ min (count.old + 1) (2 ^ 64 - 1) }
+{
+    *count = count.saturating_add(1);
 }

@@ -1,11 +1,11 @@
 //! The tree of the files of a folder.
 
-ghost use Rattle.std.specs.Prelude.{◌≡◌, ◌↔◌, None, IfOk, IsErr};
+ghost use Rattle.std.specs.Prelude.{◌≡◌, ◌↔◌, None, ◌≤◌, IfOk, IsErr, vec_len};
 ghost use Rattle.std.specs.IoError.{error_kind};
 ghost use Rattle.ct_cli.specs.Systems.{cause_at};
-ghost use Rattle.ct_outside.specs.Counts.{CountAfter};
+ghost use Rattle.ct_outside.specs.Counts.{CountAfter, Rose};
 
-use crate::causes::{Cause, cause_of};
+use crate::causes::{Cause, cause_of, raise};
 use ct_base::Text;
 use ct_outside::{Entry, Found, Tree, TreeError};
 use std::alloc::Global;
@@ -95,10 +95,15 @@ fn entries<R: Files + AllocGlobal + Clone + Drop>(
     rt: &R,
     alloc: Global,
     folder: &str,
-) -> io::Result<Vec<Entry>> {
+) -> io::Result<Vec<Entry>>
+    ensures { IfOk result (λ entries. vec_len entries ≤ MOST_ENTRIES) }
+{
     let path = if folder.is_empty() { "." } else { folder };
     let mut entries = Vec::new(alloc);
-    for entry in fs::read_dir(rt, path)?.take(MOST_ENTRIES) {
+    for entry in fs::read_dir(rt, path)? {
+        if entries.len() == MOST_ENTRIES {
+            break;
+        }
         entries.push(described(rt, alloc, &entry?)?)?;
     }
     Ok(entries)
@@ -153,10 +158,7 @@ fn answer_to(error: &io::Error, faults: &mut u64) -> Result<Found, TreeError>
     match cause_of(error) {
         Cause::Missing => Ok(Found::Absent),
         Cause::OutOfMemory => Err(TreeError::OutOfMemory),
-        Cause::System => {
-            *faults = faults.saturating_add(1);
-            Err(TreeError::Failed)
-        }
+        Cause::System => Err(failed(faults)),
     }
 }
 
@@ -168,9 +170,15 @@ fn answer_to_write(error: &io::Error, faults: &mut u64) -> Result<(), TreeError>
 {
     match cause_of(error) {
         Cause::OutOfMemory => Err(TreeError::OutOfMemory),
-        Cause::Missing | Cause::System => {
-            *faults = faults.saturating_add(1);
-            Err(TreeError::Failed)
-        }
+        Cause::System | Cause::Missing => Err(failed(faults)),
     }
+}
+
+/// Counts a fault of the system.
+fn failed(faults: &mut u64) -> TreeError
+    ensures answer { result ≡ TreeError.Failed }
+    ensures rose { Rose faults.old faults.new }
+{
+    raise(faults);
+    TreeError::Failed
 }

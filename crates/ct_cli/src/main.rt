@@ -7,14 +7,17 @@ ghost use Rattle.ct_cli.specs.Ending.{exit_code_of};
 mod causes;
 mod dir_tree;
 mod standard_output;
+#[cfg(test)]
+mod tests;
 
 use crate::causes::{Cause, cause_of};
 use crate::dir_tree::DirTree;
 use crate::standard_output::StandardOutput;
-use ct_base::Status;
+use ct_base::{Mem, OutOfMemory, Status};
 use ct_top::run;
+use std::env;
 use std::process::ExitCode;
-use std::{env, io};
+use std::rt::Env;
 
 fn main(rt: HostRuntime) -> ExitCode {
     let status = match words(&rt) {
@@ -23,16 +26,16 @@ fn main(rt: HostRuntime) -> ExitCode {
             let mut out = StandardOutput::new(rt);
             run(rt.alloc(), words.as_slice(), &mut tree, &mut out)
         }
-        Err(_) => Status::OutOfMemory,
+        Err(OutOfMemory) => Status::OutOfMemory,
     };
     ExitCode::from(exit_code(status))
 }
 
 /// The words after the program's name. Where one of all words is not UTF-8, there are none.
-fn words(rt: &HostRuntime) -> io::Result<Vec<String>> {
+fn words<R: Env + AllocGlobal>(rt: &R) -> Mem<Vec<String>> {
     match env::args(rt) {
         Ok(all) => Ok(all.skip(1).collect(rt.alloc())?),
-        Err(error) if cause_of(&error) == Cause::OutOfMemory => Err(error),
+        Err(error) if cause_of(&error) == Cause::OutOfMemory => Err(OutOfMemory),
         Err(_) => Ok(Vec::new(rt.alloc())),
     }
 }

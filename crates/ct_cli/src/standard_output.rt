@@ -2,6 +2,7 @@
 
 ghost use Rattle.std.specs.Prelude.{◌≡◌, ◌≤◌, None, IfOk, length};
 
+use crate::causes::raise;
 use ct_outside::{Sink, SinkFailed};
 use std::io::{self, ErrorKind, Write};
 
@@ -35,7 +36,7 @@ impl<R: Print> Sink for StandardOutput<R> {
         match put(&self.rt, piece) {
             Ok(count) if count > 0 => Ok(count),
             _ => {
-                self.faults = self.faults.saturating_add(1);
+                raise(&mut self.faults);
                 Err(SinkFailed)
             }
         }
