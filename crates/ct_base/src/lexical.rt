@@ -2,7 +2,8 @@
 
 use crate::texts::Bytes;
 
-/// A place in the text: a file of its unit, by its number from 0, and a line, from 1.
+/// A place in the text: a file of its unit, by its number from 0, and a line, from 1, or 0 in a
+/// built-in header.
 #[derive(Clone, Copy, Debug, PartialEq, Eq)]
 pub struct Span {
     pub file: u32,

@@ -58,7 +58,7 @@ impl Model for MemTree {
 
 impl MemTree {
     /// A tree with no files. The call (kind, k) in `failing` is the k-th call of that kind, from 1
-    /// on, and fails.
+    /// on, and fails. The numbers of calls stand still at 2 ^ 64 - 1.
     pub fn new(alloc: Global, failing: Vec<(TreeCall, u64)>) -> MemTree
         ensures { result ≡ record {
           files = empty;

@@ -1,6 +1,6 @@
 //! A sink for text.
 
-ghost use Rattle.std.specs.Prelude.{◌≡◌, ℕ, ◌<◌, ◌≤◌, List, Option, IfOk, OnOk, OnErr, length, take};
+ghost use Rattle.std.specs.Prelude.{◌≡◌, ℕ, ◌-◌, ◌^◌, ◌<◌, ◌≤◌, List, Option, IfOk, OnOk, OnErr, length, take};
 ghost use Rattle.ct_outside.specs.Counts.{Rose};
 ghost use Rattle.ct_outside.specs.Taken.{Took};
 
@@ -24,5 +24,6 @@ pub trait Sink {
         ensures taken { IfOk result (λ count. Took (taken self.old) (taken self.new) (take count piece.now)) }
         ensures same_faults { OnOk result (faults self.new ≡ faults self.old) }
         ensures failed { OnErr result (Rose (faults self.old) (faults self.new)) }
-        ensures nothing { OnErr result (taken self.new ≡ taken self.old) };
+        ensures nothing { OnErr result (taken self.new ≡ taken self.old) }
+        ensures bounded { faults self.old ≤ 2 ^ 64 - 1 → faults self.new ≤ 2 ^ 64 - 1 };
 }

@@ -1,6 +1,6 @@
 //! A tree of files.
 
-ghost use Rattle.std.specs.Prelude.{◌≡◌, ℕ, ◌+◌, ◌≤◌, List, Option, IfOk, IfSome, OnOk, OnErr, vec_len};
+ghost use Rattle.std.specs.Prelude.{◌≡◌, ℕ, ◌+◌, ◌-◌, ◌^◌, ◌≤◌, List, Option, IfOk, IfSome, OnOk, OnErr, vec_len};
 ghost use Rattle.ct_outside.specs.Counts.{CountAfter};
 ghost use Rattle.ct_outside.specs.Files.{Files, Leaves, ListsFolder, ReadsFile, SetsFile};
 ghost use Rattle.ct_outside.specs.declared.tree.TreeError.TheVariants.{OutOfMemory as out_of_memory};
@@ -74,7 +74,8 @@ pub trait Tree {
         ensures never_large { result ≡ Ok Found.TooLarge → ⊥ }
         ensures same_files { files self.new ≡ files self.old }
         ensures faults { CountAfter result (read_faults self.old) (read_faults self.new) }
-        ensures other_faults { write_faults self.new ≡ write_faults self.old };
+        ensures other_faults { write_faults self.new ≡ write_faults self.old }
+        ensures bounded { read_faults self.old ≤ 2 ^ 64 - 1 → read_faults self.new ≤ 2 ^ 64 - 1 };
 
     /// Appends the bytes of a file, where it has at most `limit`.
     fn read(
@@ -90,12 +91,14 @@ pub trait Tree {
         ensures within { IfOk result (λ _. vec_len into.new ≤ vec_len into.old + limit) }
         ensures same_files { files self.new ≡ files self.old }
         ensures faults { CountAfter result (read_faults self.old) (read_faults self.new) }
-        ensures other_faults { write_faults self.new ≡ write_faults self.old };
+        ensures other_faults { write_faults self.new ≡ write_faults self.old }
+        ensures bounded { read_faults self.old ≤ 2 ^ 64 - 1 → read_faults self.new ≤ 2 ^ 64 - 1 };
 
     /// Sets a file to these bytes, and changes no other.
     fn write(&mut self, alloc: Global, path: &str, bytes: &[u8]) -> Result<(), TreeError>
         ensures same_files { OnErr result (files self.new ≡ files self.old) }
         ensures written { OnOk result (SetsFile (files self.old) (files self.new) path.now bytes.now) }
         ensures faults { CountAfter result (write_faults self.old) (write_faults self.new) }
-        ensures other_faults { read_faults self.new ≡ read_faults self.old };
+        ensures other_faults { read_faults self.new ≡ read_faults self.old }
+        ensures bounded { write_faults self.old ≤ 2 ^ 64 - 1 → write_faults self.new ≤ 2 ^ 64 - 1 };
 }

@@ -1,5 +1,5 @@
 -- The logs of the files that were run so far.
-use Rattle.std.proofs.Common.{◌≡◌, ℕ, zero, suc, ◌+◌, ◌<◌, List, [], ◌∷◌, ◌++◌, length, get_or, drop, refl, sym, ap, subst, ◌∙◌, append_assoc, append-nil, arith, add-one}
+use Rattle.std.proofs.Common.{inl, inr, ◌≡◌, ℕ, zero, suc, ◌+◌, ◌<◌, List, [], ◌∷◌, ◌++◌, length, get_or, drop, refl, sym, ap, subst, ◌∙◌, append_assoc, append-nil, arith, add-one}
 use Rattle.std.specs.Prelude.{Result, Ok, Err}
 use Rattle.ct_base.specs.Answers.{IfFault, OnAnswer}
 use Rattle.ct_base.specs.declared.memory.Fail.{Fail}
@@ -26,7 +26,7 @@ behind-with_log logs log (Err refusal) = refl
 -- what follows an index begins with the element there
 from_here : (files : List TestFile) (i : ℕ) (file : TestFile) → i < length files → file ≡ get_or files i file → drop i files ≡ file ∷ drop (i + 1) files
 from_here files i file within is = rw add-one (go files i within is)
-    where
+  where
     go : (files : List TestFile) (i : ℕ) → i < length files → file ≡ get_or files i file → drop i files ≡ file ∷ drop (suc i) files
     go [] i within is = absurd (omega arith)
     go (f ∷ fs) zero within is = ap (λ g. g ∷ fs) (sym is)
@@ -37,16 +37,16 @@ pub ran_one : (files : List TestFile) (i : ℕ) (file : TestFile) (logs : List R
     → FileMeans file.path file.text (Ok log) → ((o : Outcome) → FilesMean (drop i files) o → FilesMean files (behind logs o))
     → (o : Outcome) → FilesMean (drop (i + 1) files) o → FilesMean files (behind (logs ++ log ∷ []) o)
 ran_one files i file logs log within is means so_far o rest =
-    let here : FilesMean (file ∷ drop (i + 1) files) (with_log log o) = (Ok log, means, (o, rest, refl)) in
+    let here : FilesMean (file ∷ drop (i + 1) files) (with_log log o) = inr (log, o, means, rest, refl) in
     subst (FilesMean files) (behind-with_log logs log o)
-      (so_far (with_log log o) (subst (λ fs. FilesMean fs (with_log log o)) (sym (from_here files i file within is)) here))
+    (so_far (with_log log o) (subst (λ fs. FilesMean fs (with_log log o)) (sym (from_here files i file within is)) here))
 
 -- the next file is refused
 pub refused_here : (files : List TestFile) (i : ℕ) (file : TestFile) (logs : List RunLog) (refusal : Refusal) → i < length files → file ≡ get_or files i file
     → FileMeans file.path file.text (Err refusal) → ((o : Outcome) → FilesMean (drop i files) o → FilesMean files (behind logs o))
     → FilesMean files (Err refusal)
 refused_here files i file logs refusal within is means so_far =
-    let here : FilesMean (file ∷ drop (i + 1) files) (Err refusal) = (Err refusal, means, refl) in
+    let here : FilesMean (file ∷ drop (i + 1) files) (Err refusal) = inl (refusal, means, refl) in
     so_far (Err refusal) (subst (λ fs. FilesMean fs (Err refusal)) (sym (from_here files i file within is)) here)
 
 -- all were run

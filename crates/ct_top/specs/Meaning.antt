@@ -27,9 +27,13 @@ line_after test (Some check) = record { name = test.name; line = check.line; ver
 abbrev pub line_of : TestFunction → TestLine
 line_of test = line_after test (first_failure test.checks)
 
+-- the number of the kind of refusals of words outside what is read
+abbrev pub unsupported_kind : ℕ
+unsupported_kind = 7
+
 -- the refusal of a token that no item reads
 abbrev pub unsupported : List ℕ → Token → Refusal
-unsupported path token = record { kind = 7; file = path; line = token.span.line; text = codes "Unsupported " ++ token.text }
+unsupported path token = record { kind = unsupported_kind; file = path; line = token.span.line; text = codes "Unsupported " ++ token.text }
 
 abbrev pub log_of : List ℕ → Result (List TestFunction) Token → Result RunLog Refusal
 log_of path (Ok tests) = Ok (record { file = path; tests = map line_of tests })

@@ -1,5 +1,5 @@
 -- What a project means: the report of its tests, or its first refusal.
-use Rattle.std.specs.Prelude.{◌≡◌, ℕ, ◌<◌, ◌≤◌, ◌↔◌, ◌&&◌, Bool, true, false, IsTrue, List, [], ◌∷◌, ◌++◌, map, length, find, nat_eq, nat_lt, Option, Some, None, IsSome, unwrap_or, Result, Ok, Err, codes, decimal, if◌then◌else◌}
+use Rattle.std.specs.Prelude.{◌≡◌, ◌⊎◌, ℕ, ◌<◌, ◌≤◌, ◌↔◌, ◌&&◌, Bool, true, false, IsTrue, List, [], ◌∷◌, ◌++◌, map, length, find, nat_eq, nat_lt, Option, Some, None, IsSome, unwrap_or, Result, Ok, Err, codes, decimal, if◌then◌else◌}
 use Rattle.std.specs.List.{Contains, starts_with, ends_with, list_any}
 use Rattle.std.specs.List.Sorted.{IsSorted}
 use Rattle.std.specs.Ordering.{nat_cmp}
@@ -22,7 +22,7 @@ file_bytes = 1048576
 abbrev pub most_entries : ℕ
 most_entries = 20000
 
--- Where they were read, the bytes of a file make it too long.
+-- more bytes than a file may have
 abbrev pub is_too_long : List ℕ → Bool
 is_too_long text = nat_lt file_bytes (length text)
 
@@ -32,21 +32,31 @@ project_path = codes "project.yml"
 abbrev pub test_folder : List ℕ
 test_folder = codes "test"
 
+-- the numbers of kinds of refusals, in the order in which they come
+abbrev pub absent_kind : ℕ
+absent_kind = 1
+
+abbrev pub settings_kind : ℕ
+settings_kind = 2
+
+abbrev pub limit_kind : ℕ
+limit_kind = 4
+
 abbrev pub refusal : ℕ → List ℕ → ℕ → List ℕ → Refusal
 refusal kind file line text = record { kind = kind; file = file; line = line; text = text }
 
 abbrev pub no_project : Refusal
-no_project = refusal 1 project_path 0 (codes "NoProject")
+no_project = refusal absent_kind project_path 0 (codes "NoProject")
 
--- no setting is read yet
+-- a project file that is not empty: no setting is known
 abbrev pub no_settings : Refusal
-no_settings = refusal 2 project_path 1 (codes "Settings Yaml")
+no_settings = refusal settings_kind project_path 1 (codes "Settings Yaml")
 
 abbrev pub too_long : List ℕ → Refusal
-too_long path = refusal 4 path 0 (codes "Limit FileBytes")
+too_long path = refusal limit_kind path 0 (codes "Limit FileBytes")
 
 abbrev pub too_many_entries : Refusal
-too_many_entries = refusal 4 test_folder 0 (codes "Limit Entries")
+too_many_entries = refusal limit_kind test_folder 0 (codes "Limit Entries")
 
 -- why the project file refuses the project
 abbrev pub refusal_of_text : List ℕ → Option Refusal
@@ -75,7 +85,7 @@ pub record AreTestFiles (files : Files) (paths : List (List ℕ)) : Type 0 where
   pub once : EachOnce paths
   pub sorted : IsSorted (slice_cmp nat_cmp) paths
 
--- a file with its bytes
+-- a file with its bytes; it is asked of paths that have a file alone
 abbrev pub with_text : Files → List ℕ → TestFile
 with_text files path = record { path = path; text = unwrap_or (get files path) [] }
 
@@ -90,15 +100,12 @@ abbrev pub with_log : RunLog → Outcome → Outcome
 with_log log (Ok logs) = Ok (log ∷ logs)
 with_log log (Err refusal) = Err refusal
 
--- the first file that is refused refuses the project, and then no later one counts
-abbrev pub AfterFile : Result RunLog Refusal → (Outcome → Type 0) → Outcome → Type 0
-AfterFile (Err refusal) Others outcome = outcome ≡ Err refusal
-AfterFile (Ok log) Others outcome = (others : Outcome) × Others others × (outcome ≡ with_log log others)
-
+-- The first file that is refused refuses the project, and then no later one counts. Else each has its log.
 abbrev pub FilesMean : List TestFile → Outcome → Type 0
 FilesMean [] outcome = outcome ≡ Ok []
 FilesMean (file ∷ files) outcome =
-    (answer : Result RunLog Refusal) × FileMeans file.path file.text answer × AfterFile answer (FilesMean files) outcome
+    ((refusal : Refusal) × FileMeans file.path file.text (Err refusal) × (outcome ≡ Err refusal))
+    ⊎ ((log : RunLog) × (others : Outcome) × FileMeans file.path file.text (Ok log) × FilesMean files others × (outcome ≡ with_log log others))
 
 -- Every file is read before any is translated, so one that is too long comes first.
 abbrev pub AfterReading : Option TestFile → List TestFile → Outcome → Type 0

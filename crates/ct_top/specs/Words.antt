@@ -2,7 +2,7 @@
 use Rattle.std.specs.Prelude.{◌≡◌, ℕ, List, [], ◌∷◌, ◌++◌, map, codes, String, string_bytes}
 use Rattle.std.specs.declared.alloc.Global.{Global}
 
--- The words are the one word `test:all`, the one command that is built.
+-- The words are the one word `test:all`, the one command.
 abbrev pub IsTestAll : List (String Global) → Type 0
 IsTestAll words = map string_bytes words ≡ codes "test:all" ∷ []
 
