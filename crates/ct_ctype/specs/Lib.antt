@@ -1,0 +1,3 @@
+pub mod Ranges
+pub mod Conversion
+pub mod Operation

@@ -1,0 +1,11 @@
+//! The integer types of C, their arithmetic, and the layout of types.
+//!
+//! The target: bytes of 8 bits, two's complement, plain `char` signed, `short` 16, `int` 32,
+//! `long`, `long long` and pointers 64 bits.
+#![tactic(auto)]
+
+mod conversions;
+mod kinds;
+
+pub use conversions::{common, convert, promote};
+pub use kinds::IntKind;
