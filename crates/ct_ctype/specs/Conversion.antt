@@ -1,5 +1,5 @@
 -- Conversions of integers (6.3.1).
-use Rattle.std.specs.Prelude.{ℕ, ◌≡◌, Bool, true, false, ◌&&◌, if◌then◌else◌, nat_lt, nat_le, ℤ, pos, negsuc, zero, suc, int_le}
+use Rattle.std.specs.Prelude.{ℕ, Bool, ◌&&◌, if◌then◌else◌, nat_lt, nat_le, ℤ, pos, negsuc, zero, suc, int_le}
 use Rattle.ct_ctype.specs.declared.kinds.IntKind.{IntKind}
 use Rattle.ct_ctype.specs.declared.kinds.IntKind.TheVariants.{Bool as Boolean, Char, SignedChar, UnsignedChar, Short, UnsignedShort, Int, UnsignedInt, Long, UnsignedLong, LongLong, UnsignedLongLong}
 use Rattle.ct_ctype.specs.Ranges.{least, greatest, is_signed, wrapped}

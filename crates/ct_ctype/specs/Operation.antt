@@ -1,6 +1,6 @@
 -- Operators of integers (6.5.3.3 and 6.5.5 to 6.5.12) on mathematical integers. Operands and result are of one kind, but
 -- that the count of a shift is any number, and that `!` and a comparison give 1 or 0 of the kind `int`.
-use Rattle.std.specs.Prelude.{ℕ, zero, suc, ◌-◌, ◌^◌, ◌≡◌, Bool, true, false, not, ◌&&◌, if◌then◌else◌, ℤ, pos, negsuc, neg_ℤ, ◌+ℤ◌, ◌-ℤ◌, ◌*ℤ◌, int_lt, int_le, int_div, int_rem, unsigned_abs, bit_and, bit_or, bit_xor, Result, Ok, Err}
+use Rattle.std.specs.Prelude.{zero, suc, ◌-◌, ◌^◌, Bool, true, false, not, ◌&&◌, if◌then◌else◌, ℤ, pos, negsuc, neg_ℤ, ◌+ℤ◌, ◌-ℤ◌, ◌*ℤ◌, int_lt, int_le, int_div, int_rem, unsigned_abs, bit_and, bit_or, bit_xor, Result, Ok, Err}
 use Rattle.std.specs.Int.{int_div_euclid}
 use Rattle.ct_base.specs.declared.faults.FaultKind.{FaultKind}
 use Rattle.ct_base.specs.declared.faults.FaultKind.TheVariants.{SignedOverflow, DivideByZero, ShiftRange}
@@ -20,6 +20,9 @@ is_zero (pos zero) = true
 is_zero (pos (suc n)) = false
 is_zero (negsuc n) = false
 
+abbrev pub is_same : ℤ → ℤ → Bool
+is_same a b = int_le a b && int_le b a
+
 -- the quotient or the remainder z of a and b, where b is not 0 (6.5.5p5) and the quotient is in range (6.5.5p6)
 abbrev pub divided : IntKind → ℤ → ℤ → ℤ → Result ℤ FaultKind
 divided k a b z = if is_zero b then Err DivideByZero else (if is_in_range k (int_div a b) then Ok z else Err SignedOverflow)
@@ -28,17 +31,19 @@ divided k a b z = if is_zero b then Err DivideByZero else (if is_in_range k (int
 abbrev pub is_count : IntKind → ℤ → Bool
 is_count k count = int_le (pos 0) count && int_lt count (pos (width k))
 
--- a * 2 ^ n (6.5.7p4): of a signed kind neither a may be negative nor the product outside the range
-abbrev pub moved_left : IntKind → ℤ → ℕ → Result ℤ FaultKind
-moved_left k a n =
-    let product = a *ℤ pos (2 ^ n) in
+-- a * 2 ^ count (6.5.7p4): of a signed kind neither a may be negative nor the product outside the range
+abbrev pub moved_left : IntKind → ℤ → ℤ → Result ℤ FaultKind
+moved_left k a product =
     if is_signed k
     then (if int_le (pos 0) a && is_in_range k product then Ok product else Err ShiftRange)
     else Ok (wrapped k product)
 
--- a / 2 ^ n, rounded down (6.5.7p5)
-abbrev pub moved_right : ℤ → ℕ → ℤ
-moved_right a n = int_div_euclid a (pos (2 ^ n))
+abbrev pub shifted_left : IntKind → ℤ → ℤ → Result ℤ FaultKind
+shifted_left k a count = if is_count k count then moved_left k a (a *ℤ pos (2 ^ unsigned_abs count)) else Err ShiftRange
+
+-- a / 2 ^ count, rounded down (6.5.7p5)
+abbrev pub shifted_right : IntKind → ℤ → ℤ → Result ℤ FaultKind
+shifted_right k a count = if is_count k count then Ok (int_div_euclid a (pos (2 ^ unsigned_abs count))) else Err ShiftRange
 
 -- 1 where the relation holds, else 0 (6.5.8p6 and 6.5.9p3)
 abbrev pub truth : Bool → Result ℤ FaultKind
@@ -50,14 +55,14 @@ binary_result Divide k a b = divided k a b (int_div a b)
 binary_result Remainder k a b = divided k a b (int_rem a b)
 binary_result Add k a b = arithmetic k (a +ℤ b)
 binary_result Subtract k a b = arithmetic k (a -ℤ b)
-binary_result ShiftLeft k a b = if is_count k b then moved_left k a (unsigned_abs b) else Err ShiftRange
-binary_result ShiftRight k a b = if is_count k b then Ok (moved_right a (unsigned_abs b)) else Err ShiftRange
+binary_result ShiftLeft k a b = shifted_left k a b
+binary_result ShiftRight k a b = shifted_right k a b
 binary_result Less k a b = truth (int_lt a b)
 binary_result Greater k a b = truth (int_lt b a)
 binary_result LessEqual k a b = truth (int_le a b)
 binary_result GreaterEqual k a b = truth (int_le b a)
-binary_result Equal k a b = truth (is_zero (a -ℤ b))
-binary_result NotEqual k a b = truth (not (is_zero (a -ℤ b)))
+binary_result Equal k a b = truth (is_same a b)
+binary_result NotEqual k a b = truth (not (is_same a b))
 binary_result And k a b = Ok (number_of k (bit_and (low_bits k a) (low_bits k b)))
 binary_result Xor k a b = Ok (number_of k (bit_xor (low_bits k a) (low_bits k b)))
 binary_result Or k a b = Ok (number_of k (bit_or (low_bits k a) (low_bits k b)))

@@ -105,4 +105,11 @@ impl IntKind {
             _ => 0x1_0000_0000_0000_0000,
         }
     }
+
+    /// Whether a number is in the range of the kind.
+    pub fn holds(self, v: i128) -> bool
+        ensures { result ≡ ranges.is_in_range self v }
+    {
+        self.least() <= v && v <= self.greatest()
+    }
 }

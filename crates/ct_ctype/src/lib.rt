@@ -6,6 +6,8 @@
 
 mod conversions;
 mod kinds;
+mod operations;
 
 pub use conversions::{common, convert, promote};
 pub use kinds::IntKind;
+pub use operations::{binary, unary};

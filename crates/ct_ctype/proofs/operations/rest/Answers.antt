@@ -1,0 +1,10 @@
+use Rattle.std.proofs.lemmas.Int.{rem_is}
+use Rattle.std.specs.Int.{w128}
+use Rattle.ct_ctype.proofs.Exact.{narrow, divides}
+use Rattle.ct_ctype.proofs.operations.rest.Goals as goal
+
+pub nonzero_rem-result : goal.nonzero_rem-result
+nonzero_rem-result c = divides c.args.left c.args.right c.ranges.left c.ranges.right (narrow c.args.k c.args.left c.requires.left) c.requires.nonzero
+
+pub returns : goal.returns
+returns c = rem_is w128 c.args.left c.args.right c.ranges.left c.ranges.right
