@@ -19,7 +19,7 @@ pub enum IntKind {
 }
 
 impl IntKind {
-    ghost use Rattle.std.specs.Prelude.{◌≡◌, ◌<◌, ◌^◌, pos};
+    ghost use Rattle.std.specs.Prelude.{◌≡◌, ◌^◌, ◌↔◌, pos, IsTrue};
     ghost use Rattle.ct_ctype.specs.Ranges as ranges;
 
     /// Whether the kind holds negative numbers.
@@ -108,7 +108,8 @@ impl IntKind {
 
     /// Whether a number is in the range of the kind.
     pub fn holds(self, v: i128) -> bool
-        ensures { result ≡ ranges.is_in_range self v }
+        ensures value { result ≡ ranges.is_in_range self v }
+        ensures in_range { IsTrue result ↔ ranges.InRange self v }
     {
         self.least() <= v && v <= self.greatest()
     }

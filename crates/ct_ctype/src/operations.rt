@@ -20,7 +20,8 @@ use ct_base::{BinaryOp, FaultKind, UnaryOp};
 pub fn binary(op: BinaryOp, k: IntKind, left: i128, right: i128) -> Result<i128, FaultKind>
     requires left { InRange k left }
     requires right { IsFalse (spec.is_shift op) → InRange k right }
-    ensures { result ≡ spec.binary_result op k left right }
+    ensures value { result ≡ spec.binary_result op k left right }
+    ensures in_range { IfOk result (InRange k) }
 {
     match op {
         BinaryOp::Multiply => multiply(k, left, right),
@@ -47,7 +48,8 @@ pub fn binary(op: BinaryOp, k: IntKind, left: i128, right: i128) -> Result<i128,
 #[tactic(auto, unfolding(crate::specs::Operation::unary_result))]
 pub fn unary(op: UnaryOp, k: IntKind, v: i128) -> Result<i128, FaultKind>
     requires { InRange k v }
-    ensures { result ≡ spec.unary_result op k v }
+    ensures value { result ≡ spec.unary_result op k v }
+    ensures in_range { IfOk result (InRange k) }
 {
     match op {
         UnaryOp::Plus => Ok(v),
@@ -66,7 +68,8 @@ fn truth(holds: bool) -> i128
 
 /// A result in the kind: of a signed one it must be in the range, of an unsigned one it wraps.
 fn arithmetic(k: IntKind, z: i128) -> Result<i128, FaultKind>
-    ensures { result ≡ spec.arithmetic k z }
+    ensures value { result ≡ spec.arithmetic k z }
+    ensures in_range { IfOk result (InRange k) }
 {
     if !k.is_signed() {
         Ok(wrap(k, z))
@@ -80,7 +83,8 @@ fn arithmetic(k: IntKind, z: i128) -> Result<i128, FaultKind>
 fn add(k: IntKind, left: i128, right: i128) -> Result<i128, FaultKind>
     requires left { InRange k left }
     requires right { InRange k right }
-    ensures { result ≡ spec.arithmetic k (left +ℤ right) }
+    ensures value { result ≡ spec.arithmetic k (left +ℤ right) }
+    ensures in_range { IfOk result (InRange k) }
 {
     arithmetic(k, left + right)
 }
@@ -88,7 +92,8 @@ fn add(k: IntKind, left: i128, right: i128) -> Result<i128, FaultKind>
 fn subtract(k: IntKind, left: i128, right: i128) -> Result<i128, FaultKind>
     requires left { InRange k left }
     requires right { InRange k right }
-    ensures { result ≡ spec.arithmetic k (left -ℤ right) }
+    ensures value { result ≡ spec.arithmetic k (left -ℤ right) }
+    ensures in_range { IfOk result (InRange k) }
 {
     arithmetic(k, left - right)
 }
@@ -96,7 +101,8 @@ fn subtract(k: IntKind, left: i128, right: i128) -> Result<i128, FaultKind>
 fn multiply(k: IntKind, left: i128, right: i128) -> Result<i128, FaultKind>
     requires left { InRange k left }
     requires right { InRange k right }
-    ensures { result ≡ spec.arithmetic k (left *ℤ right) }
+    ensures value { result ≡ spec.arithmetic k (left *ℤ right) }
+    ensures in_range { IfOk result (InRange k) }
 {
     if k.is_signed() {
         arithmetic(k, left * right)
@@ -109,7 +115,8 @@ fn multiply(k: IntKind, left: i128, right: i128) -> Result<i128, FaultKind>
 fn divide(k: IntKind, left: i128, right: i128) -> Result<i128, FaultKind>
     requires left { InRange k left }
     requires right { InRange k right }
-    ensures { result ≡ spec.divided k left right (int_div left right) }
+    ensures value { result ≡ spec.divided k left right (int_div left right) }
+    ensures in_range { IfOk result (InRange k) }
 {
     if right == 0 {
         return Err(FaultKind::DivideByZero);
@@ -125,7 +132,8 @@ fn divide(k: IntKind, left: i128, right: i128) -> Result<i128, FaultKind>
 fn remainder(k: IntKind, left: i128, right: i128) -> Result<i128, FaultKind>
     requires left { InRange k left }
     requires right { InRange k right }
-    ensures { result ≡ spec.divided k left right (int_rem left right) }
+    ensures value { result ≡ spec.divided k left right (int_rem left right) }
+    ensures in_range { IfOk result (InRange k) }
 {
     if right == 0 {
         return Err(FaultKind::DivideByZero);
@@ -152,14 +160,16 @@ fn rest(k: IntKind, left: i128, right: i128) -> i128
     requires left { InRange k left }
     requires right { InRange k right }
     requires nonzero { right ≢ pos 0 }
-    ensures { result ≡ int_rem left right }
+    ensures value { result ≡ int_rem left right }
+    ensures in_range { InRange k result }
 {
     left % right
 }
 
 fn shift_left(k: IntKind, left: i128, count: i128) -> Result<i128, FaultKind>
     requires { InRange k left }
-    ensures { result ≡ spec.shifted_left k left count }
+    ensures value { result ≡ spec.shifted_left k left count }
+    ensures in_range { IfOk result (InRange k) }
 {
     if !is_count(k, count) {
         return Err(FaultKind::ShiftRange);
@@ -178,7 +188,8 @@ fn shift_left(k: IntKind, left: i128, count: i128) -> Result<i128, FaultKind>
 
 fn shift_right(k: IntKind, left: i128, count: i128) -> Result<i128, FaultKind>
     requires { InRange k left }
-    ensures { result ≡ spec.shifted_right k left count }
+    ensures value { result ≡ spec.shifted_right k left count }
+    ensures in_range { IfOk result (InRange k) }
 {
     if is_count(k, count) {
         Ok(left.div_euclid(power(count as u32)))
