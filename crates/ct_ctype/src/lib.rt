@@ -7,7 +7,11 @@
 mod conversions;
 mod kinds;
 mod operations;
+mod structs;
+mod types;
 
 pub use conversions::{common, convert, promote};
 pub use kinds::IntKind;
 pub use operations::{binary, unary};
+pub use structs::Structs;
+pub use types::{CType, Extent, FunctionType, Member, StructLayout};

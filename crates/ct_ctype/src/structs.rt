@@ -1,0 +1,110 @@
+//! Structs and the layout of types.
+
+ghost use Rattle.std.specs.Prelude.{◌≡◌, ◌-◌, ◌<◌, ◌^◌, ◌++◌, ◌∷◌, [], length, None, IfOk, OnOk, OnErr, option_map};
+ghost use Rattle.std.specs.Option.{option_copied};
+ghost use Rattle.ct_ctype.specs.Layout as spec;
+
+use crate::kinds::IntKind;
+use crate::types::{CType, Extent, Member, StructLayout};
+use ct_base::{Items, Mem};
+use std::alloc::Global;
+use std::marker::Model;
+
+/// The structs of a unit, by their numbers. A struct that is declared but not complete has no
+/// layout. Contracts see the list of their layouts.
+#[derive(Debug, Drop)]
+pub struct Structs {
+    layouts: Items<Option<StructLayout>>,
+}
+
+impl Model for Structs {
+    ghost use Rattle.std.specs.Prelude.{List, Option};
+    ghost use Rattle.ct_ctype.specs.declared.types.StructLayout.{StructLayout};
+
+    ghost use Rattle.ct_ctype.specs.contracts.types.CType as ctype;
+    ghost use Rattle.std.specs.Coded.{codes};
+
+    ghost Value = { List (Option StructLayout) };
+
+    ghost coded = { Prim.hlevel (codes, ctype.the_row.coded) };
+
+    ghost view = { λ s. s.layouts };
+}
+
+impl Structs {
+    /// No structs. This takes no memory.
+    pub fn new(alloc: Global) -> Structs
+        ensures { result ≡ [] }
+    {
+        Structs {
+            layouts: Items::new(alloc),
+        }
+    }
+
+    /// Adds a struct without members, and gives its number. For want of memory nothing is added.
+    pub fn declare(&mut self) -> Mem<u32>
+        requires { length self.old < 2 ^ 32 - 1 }
+        ensures number { IfOk result (λ number. number ≡ length self.old) }
+        ensures ok { OnOk result (self.new ≡ self.old ++ None ∷ []) }
+        ensures err { OnErr result (self.new ≡ self.old) }
+    {
+        let number = self.layouts.len() as u32;
+        self.layouts.push(None)?;
+        Ok(number)
+    }
+
+    /// The layout of a struct, where it is complete.
+    fn layout(&self, which: u32) -> Option<&StructLayout>
+        ensures { option_copied result ≡ spec.layout_of self.now which }
+    {
+        self.layouts.get(which as usize)?.as_ref()
+    }
+}
+
+/// The extent of a type, where it has one.
+#[tactic(auto, unfolding(crate::specs::Layout::extent_of))]
+fn extent(t: &CType, s: &Structs) -> Option<Extent>
+    ensures { result ≡ spec.extent_of s.now t.now }
+{
+    match t {
+        CType::Void | CType::Function(_) | CType::Array(_, None) => None,
+        CType::Int(k) => Some(scalar(bytes_of(*k))),
+        CType::Pointer(_, _) => Some(scalar(8)),
+        CType::Array(element, Some(count)) => Some(repeated(*count, extent(element.get(), s)?)),
+        CType::Struct(which) => Some(s.layout(*which)?.extent),
+    }
+}
+
+/// The extent of a scalar, which aligns at its size.
+fn scalar(bytes: u64) -> Extent
+    ensures { result ≡ spec.scalar bytes }
+{
+    Extent {
+        size: bytes,
+        alignment: bytes,
+    }
+}
+
+/// The bytes of 8 bits that an integer takes.
+fn bytes_of(k: IntKind) -> u64
+    ensures { result ≡ spec.bytes_of k }
+{
+    u64::from(k.width()).div_ceil(8)
+}
+
+/// The extent of an array.
+fn repeated(count: u32, element: Extent) -> Extent
+    ensures { result ≡ spec.repeated count element }
+{
+    Extent {
+        size: capped(u64::from(count).saturating_mul(element.size)),
+        alignment: element.alignment,
+    }
+}
+
+/// A size or an offset past 1 MiB is given as one more than that.
+fn capped(bytes: u64) -> u64
+    ensures { result ≡ spec.capped bytes }
+{
+    bytes.min(1_048_577)
+}
