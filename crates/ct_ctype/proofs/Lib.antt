@@ -1,3 +1,4 @@
 pub mod Exact
 pub mod Dividing
 pub mod InRanges
+pub mod Growing

@@ -1,5 +1,5 @@
 -- The layout of types.
-use Rattle.std.specs.Prelude.{ℕ, ◌+◌, ◌-◌, ◌*◌, ◌/◌, ◌≡◌, Bool, true, false, List, [], ◌∷◌, map, min, max, fold, Option, Some, None, option_map, option_and_then, slice_get, slice_set}
+use Rattle.std.specs.Prelude.{ℕ, ◌+◌, ◌*◌, ◌/◌, ◌≡◌, ◌<◌, ◌≤◌, if◌then◌else◌, Bool, true, false, List, [], ◌∷◌, map, min, max, fold, Option, Some, None, option_map, option_and_then, slice_get, slice_set}
 use Rattle.std.specs.Int.{next_multiple_of}
 use Rattle.ct_ctype.specs.declared.kinds.IntKind.{IntKind}
 use Rattle.ct_ctype.specs.declared.types.CType.{CType, fold-CType}
@@ -43,3 +43,59 @@ extent_step s (CType-F.Function f) = None
 
 unfoldable pub extent_of : Table → CType → Option Extent
 extent_of s = fold-CType (Option Extent) (Unit {0}) (extent_step s) (λ f. tt)
+
+-- the extents of the members, where each has one
+abbrev pub extents_of : Table → List Member → Option (List Extent)
+extents_of s [] = Some []
+extents_of s (m ∷ ms) = option_and_then (λ e. option_map (λ es. e ∷ es) (extents_of s ms)) (extent_of s m.kind)
+
+-- the members in order, each at the next multiple of its alignment, the first from this place on
+abbrev pub placed : ℕ → List Member → List Extent → List Member
+placed from [] es = []
+placed from (m ∷ ms) [] = []
+placed from (m ∷ ms) (e ∷ es) =
+    let at = next_multiple_of from e.alignment in
+    record m { offset = capped at } ∷ placed (at + e.size) ms es
+
+-- where the last of them ends
+abbrev pub end_of : ℕ → List Extent → ℕ
+end_of from [] = from
+end_of from (e ∷ es) = end_of (next_multiple_of from e.alignment + e.size) es
+
+-- the largest alignment
+abbrev pub largest : ℕ → List Extent → ℕ
+largest so_far es = fold max so_far (map (λ e. e.alignment) es)
+
+-- the size is rounded up to the largest alignment
+abbrev pub struct_layout : List Member → List Extent → StructLayout
+struct_layout ms es =
+    let alignment = largest 1 es in
+    record { members = placed 0 ms es; extent = record { size = capped (next_multiple_of (end_of 0 es) alignment); alignment = alignment } }
+
+abbrev pub laid_out : Table → List Member → Option StructLayout
+laid_out s ms = option_map (struct_layout ms) (extents_of s ms)
+
+-- a struct stands here, and has no members yet
+abbrev pub is_open : Option (Option StructLayout) → Bool
+is_open (Some None) = true
+is_open (Some (Some layout)) = false
+is_open None = false
+
+-- the table with these members as those of the struct, where it is open and each of them has a size
+abbrev pub completed : Table → ℕ → List Member → Option Table
+completed s which ms =
+    if is_open (slice_get s which) then option_map (λ layout. slice_set s which (Some layout)) (laid_out s ms) else None
+
+-- what each extent keeps
+pub record IsExtent (e : Extent) : Type 0 where
+  pub size : e.size ≤ 1048577
+  pub some : 0 < e.alignment
+  pub alignment : e.alignment ≤ 8
+
+-- what each complete struct keeps: its layout is that which its members have over the whole table
+pub record IsKept (s : Table) (layout : StructLayout) : Type 0 where
+  pub laid : laid_out s layout.members ≡ Some layout
+  pub bounded : IsExtent layout.extent
+
+abbrev pub AllKept : Table → Type 0
+AllKept s = (which : ℕ) (layout : StructLayout) → layout_of s which ≡ Some layout → IsKept s layout

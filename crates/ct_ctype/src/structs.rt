@@ -1,6 +1,7 @@
 //! Structs and the layout of types.
 
-ghost use Rattle.std.specs.Prelude.{◌≡◌, ◌-◌, ◌<◌, ◌^◌, ◌++◌, ◌∷◌, [], length, None, IfOk, OnOk, OnErr, option_map};
+ghost use Rattle.std.specs.Prelude.{◌≡◌, ◌-◌, ◌+◌, ◌<◌, ◌≤◌, ◌^◌, ◌++◌, ◌∷◌, [], length, None, IfOk, IfSome, is_some, unwrap_or, slice_get, OnOk, OnErr, option_map};
+ghost use Rattle.std.specs.Int.{next_multiple_of};
 ghost use Rattle.std.specs.Option.{option_copied};
 ghost use Rattle.ct_ctype.specs.Layout as spec;
 
@@ -28,7 +29,11 @@ impl Model for Structs {
 
     ghost coded = { Prim.hlevel (codes, ctype.the_row.coded) };
 
+    ghost use Rattle.ct_ctype.specs.Layout.{AllKept};
+
     ghost view = { λ s. s.layouts };
+
+    ghost invariant = { λ s. AllKept s.layouts };
 }
 
 impl Structs {
@@ -53,9 +58,35 @@ impl Structs {
         Ok(number)
     }
 
-    /// The layout of a struct, where it is complete.
-    fn layout(&self, which: u32) -> Option<&StructLayout>
-        ensures { option_copied result ≡ spec.layout_of self.now which }
+    /// Gives a struct its members, and sets their offsets. This is false, and changes nothing,
+    /// exactly where there is no such struct, it is complete already, or a member has no size.
+    pub fn complete(&mut self, which: u32, members: Vec<Member>) -> bool
+        ensures answer { result ≡ is_some (spec.completed self.old which members.items) }
+        ensures after { self.new ≡ unwrap_or (spec.completed self.old which members.items) self.old }
+    {
+        if !self.is_open(which) {
+            return false;
+        }
+        match laid_out(self, members) {
+            Some(layout) => {
+                self.layouts.set(which as usize, Some(layout));
+                true
+            }
+            None => false,
+        }
+    }
+
+    /// Whether there is such a struct, without members.
+    fn is_open(&self, which: u32) -> bool
+        ensures { result ≡ spec.is_open (slice_get self.now which) }
+    {
+        matches!(self.layouts.get(which as usize), Some(None))
+    }
+
+    /// The layout of a struct, where it is complete: that which its members have.
+    pub fn layout(&self, which: u32) -> Option<&StructLayout>
+        ensures value { option_copied result ≡ spec.layout_of self.now which }
+        ensures kept { IfSome result (λ layout. spec.IsKept self.now layout.now) }
     {
         self.layouts.get(which as usize)?.as_ref()
     }
@@ -64,7 +95,8 @@ impl Structs {
 /// The extent of a type, where it has one.
 #[tactic(auto, unfolding(crate::specs::Layout::extent_of))]
 fn extent(t: &CType, s: &Structs) -> Option<Extent>
-    ensures { result ≡ spec.extent_of s.now t.now }
+    ensures value { result ≡ spec.extent_of s.now t.now }
+    ensures kept { IfSome result spec.IsExtent }
 {
     match t {
         CType::Void | CType::Function(_) | CType::Array(_, None) => None,
@@ -73,6 +105,38 @@ fn extent(t: &CType, s: &Structs) -> Option<Extent>
         CType::Array(element, Some(count)) => Some(repeated(*count, extent(element.get(), s)?)),
         CType::Struct(which) => Some(s.layout(*which)?.extent),
     }
+}
+
+/// The layout of members in order, where each of them has a size: each stands at the next
+/// multiple of its alignment, and the size is rounded up to the largest alignment.
+fn laid_out(s: &Structs, mut members: Vec<Member>) -> Option<StructLayout>
+    ensures { result ≡ spec.laid_out s.now members.items }
+{
+    let mut end = 0;
+    let mut alignment = 1;
+    for i in 0..members.len() {
+        let extent = extent(&members[i].kind, s)?;
+        let offset = capped(aligned(end, extent.alignment));
+        members[i].offset = offset;
+        end = capped(offset + extent.size);
+        alignment = alignment.max(extent.alignment);
+    }
+    let size = capped(aligned(end, alignment));
+    Some(StructLayout {
+        members: Items::from_vec(members),
+        extent: Extent { size, alignment },
+    })
+}
+
+/// The least multiple of an alignment that is not below a place.
+fn aligned(place: u64, alignment: u64) -> u64
+    requires place { place ≤ 1048577 }
+    requires some { 0 < alignment }
+    requires alignment { alignment ≤ 8 }
+    ensures value { result ≡ next_multiple_of place alignment }
+    ensures bound { result < place + 8 }
+{
+    place + (alignment - place % alignment) % alignment
 }
 
 /// The extent of a scalar, which aligns at its size.
