@@ -2,3 +2,4 @@ pub mod Exact
 pub mod Dividing
 pub mod InRanges
 pub mod Growing
+pub mod Placing

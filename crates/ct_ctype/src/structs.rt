@@ -110,7 +110,8 @@ fn extent(t: &CType, s: &Structs) -> Option<Extent>
 /// The layout of members in order, where each of them has a size: each stands at the next
 /// multiple of its alignment, and the size is rounded up to the largest alignment.
 fn laid_out(s: &Structs, mut members: Vec<Member>) -> Option<StructLayout>
-    ensures { result ≡ spec.laid_out s.now members.items }
+    ensures value { result ≡ spec.laid_out s.now members.items }
+    ensures kept { IfSome result (λ layout. spec.IsExtent layout.extent) }
 {
     let mut end = 0;
     let mut alignment = 1;
