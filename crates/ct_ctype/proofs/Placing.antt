@@ -1,5 +1,5 @@
 -- The layout of a struct, member by member.
-use Rattle.std.proofs.Common.{◌≡◌, ℕ, ◌+◌, ◌*◌, ◌<◌, ◌≤◌, ◌⊎◌, inl, inr, ◌++◌, ◌∷◌, [], List, length, take, drop, set, get_or, max, min, Option, Some, None, refl, sym, ap, ◌∙◌, arith, option_map, option_and_then, append_assoc, add-one, drop-cons, ⊎_elim}
+use Rattle.std.proofs.Common.{◌≡◌, ℕ, zero, suc, subst, ◌+◌, ◌*◌, ◌<◌, ◌≤◌, ◌⊎◌, inl, inr, ◌++◌, ◌∷◌, [], List, length, take, drop, set, get_or, max, min, Option, Some, None, refl, sym, ap, ◌∙◌, arith, option_map, option_and_then, append_assoc, add-one, drop-cons, ⊎_elim}
 use mathlib.Core.Path.{ap₂}
 use Rattle.std.proofs.lemmas.Bool.{cases_lt}
 use Rattle.std.proofs.lemmas.Grind.{take-set_at, common_steps}
@@ -115,3 +115,20 @@ pub placing_end : (s : Table) (start now : List Member) (i end alignment : ℕ) 
 placing_end s start now i end alignment h le =
     sym h.goes_on ∙ ap₂ (λ done rest. place_onto s done end alignment rest) (take_all i now le) (drop_all i now le)
       ∙ ap (λ members. Some (record { members = members; extent = record { size = capped (next_multiple_of end alignment); alignment = alignment } })) (append-nil now)
+
+same_item : {A : Type 0} (xs : List A) (i : ℕ) (x y : A) → i < length xs → x ≡ get_or xs i x → y ≡ get_or xs i y → x ≡ y
+same_item [] i x y lt p q = absurd (omega arith)
+same_item (z ∷ xs) zero x y lt p q = p ∙ sym q
+same_item (z ∷ xs) (suc i) x y lt p q = same_item xs i x y (omega arith) p q
+
+-- the step, with what the calls gave
+pub placing_next : (s : Table) (start now : List Member) (i end alignment : ℕ) (m n : Member) (e : Extent) (offset end' alignment' : ℕ) → Placing s start now i end alignment → i < length now → m ≡ get_or now i m → n ≡ get_or now i n → extent_of s m.kind ≡ Some e → IsExtent e
+    → offset ≡ capped (next_multiple_of end e.alignment) → end' ≡ capped (offset + e.size) → alignment' ≡ max alignment e.alignment
+    → Placing s start (set now i (record n { offset = offset })) (i + 1) end' alignment'
+placing_next s start now i end alignment m n e offset end' alignment' h lt at at' is kept o_is end_is a_is = go (same_item now i m n lt at at') o_is (end_is ∙ ap (λ z. capped (z + e.size)) o_is) a_is
+  where
+    go : m ≡ n → {o : ℕ} → o ≡ capped (next_multiple_of end e.alignment) → {f : ℕ} → f ≡ capped (capped (next_multiple_of end e.alignment) + e.size) → {b : ℕ} → b ≡ max alignment e.alignment → Placing s start (set now i (record n { offset = o })) (i + 1) f b
+    go m_is {o} o_is {f} f_is {b} b_is =
+        let P : Member → ℕ → ℕ → ℕ → Type 0 = λ m o f b. Placing s start (set now i (record m { offset = o })) (i + 1) f b in
+        let step = placing_step s start now i end alignment m e h lt at is kept in
+        subst (λ (m : Member). P m o f b) m_is (subst (λ (o : ℕ). P m o f b) (sym o_is) (subst (λ (f : ℕ). P m (capped (next_multiple_of end e.alignment)) f b) (sym f_is) (subst (λ (b : ℕ). P m (capped (next_multiple_of end e.alignment)) (capped (capped (next_multiple_of end e.alignment) + e.size)) b) (sym b_is) step)))

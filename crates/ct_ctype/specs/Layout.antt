@@ -1,5 +1,5 @@
 -- The layout of types.
-use Rattle.std.specs.Prelude.{ℕ, ◌+◌, ◌*◌, ◌/◌, ◌≡◌, ◌<◌, ◌≤◌, if◌then◌else◌, Bool, true, false, List, [], ◌∷◌, map, min, max, fold, Option, Some, None, option_map, option_and_then, slice_get, slice_set}
+use Rattle.std.specs.Prelude.{ℕ, ◌+◌, ◌*◌, ◌/◌, ◌≡◌, ◌<◌, ◌≤◌, if◌then◌else◌, Bool, true, false, List, [], ◌∷◌, map, min, max, fold, find, bytes_eq, Option, Some, None, option_map, option_and_then, slice_get, slice_set}
 use Rattle.std.specs.Int.{next_multiple_of}
 use Rattle.ct_ctype.specs.declared.kinds.IntKind.{IntKind}
 use Rattle.ct_ctype.specs.declared.types.CType.{CType, fold-CType}
@@ -99,3 +99,8 @@ pub record IsKept (s : Table) (layout : StructLayout) : Type 0 where
 
 abbrev pub AllKept : Table → Type 0
 AllKept s = (which : ℕ) (layout : StructLayout) → layout_of s which ≡ Some layout → IsKept s layout
+
+-- the offset of the member of this name; of the first, if there are several
+abbrev pub offset_in : Table → ℕ → List ℕ → Option ℕ
+offset_in s which name =
+    option_and_then (λ layout. option_map (λ (m : Member). m.offset) (find (λ (m : Member). bytes_eq m.name name) layout.members)) (layout_of s which)

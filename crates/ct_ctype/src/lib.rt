@@ -13,5 +13,5 @@ mod types;
 pub use conversions::{common, convert, promote};
 pub use kinds::IntKind;
 pub use operations::{binary, unary};
-pub use structs::Structs;
+pub use structs::{Structs, align_of, offset_of, size_of};
 pub use types::{CType, Extent, FunctionType, Member, StructLayout};

@@ -1,6 +1,6 @@
 //! Structs and the layout of types.
 
-ghost use Rattle.std.specs.Prelude.{◌≡◌, ◌-◌, ◌+◌, ◌<◌, ◌≤◌, ◌^◌, ◌++◌, ◌∷◌, [], length, None, IfOk, IfSome, is_some, unwrap_or, slice_get, OnOk, OnErr, option_map};
+ghost use Rattle.std.specs.Prelude.{◌≡◌, ◌-◌, ◌+◌, ◌<◌, ◌≤◌, ◌^◌, ◌++◌, ◌∷◌, [], length, None, IfOk, IfSome, is_some, unwrap_or, slice_get, OnOk, OnErr, option_map, find, bytes_eq};
 ghost use Rattle.std.specs.Int.{next_multiple_of};
 ghost use Rattle.std.specs.Option.{option_copied};
 ghost use Rattle.ct_ctype.specs.Layout as spec;
@@ -90,6 +90,38 @@ impl Structs {
     {
         self.layouts.get(which as usize)?.as_ref()
     }
+}
+
+/// The bytes of an object of the type (C11 6.5.3.4). None is for a type that is incomplete, `void`
+/// or a function. A size past 1,048,576 is given as 1,048,577.
+pub fn size_of(t: &CType, s: &Structs) -> Option<u64>
+    ensures { result ≡ option_map (λ e. e.size) (spec.extent_of s.now t.now) }
+{
+    Some(extent(t, s)?.size)
+}
+
+/// The number of bytes of which the place of an object of the type is a multiple (C11 6.2.8).
+/// None is for a type that is incomplete, `void` or a function.
+pub fn align_of(t: &CType, s: &Structs) -> Option<u64>
+    ensures { result ≡ option_map (λ e. e.alignment) (spec.extent_of s.now t.now) }
+{
+    Some(extent(t, s)?.alignment)
+}
+
+/// The bytes before a member of a struct. None is for a member that is not there, and for a
+/// struct that is not there or not complete. An offset past 1,048,576 is given as 1,048,577.
+pub fn offset_of(s: &Structs, which: u32, member: &[u8]) -> Option<u64>
+    ensures { result ≡ spec.offset_in s.now which member.now }
+{
+    find_member(s.layout(which)?.members.as_slice(), member)
+}
+
+/// The offset of the first member of a name.
+fn find_member(members: &[Member], name: &[u8]) -> Option<u64>
+    ensures { result ≡ option_map (λ m. m.offset) (find (λ m. bytes_eq m.name name.now) members.now) }
+{
+    let member = members.iter().find(|m| m.name.as_slice() == name)?;
+    Some(member.offset)
 }
 
 /// The extent of a type, where it has one.
