@@ -1,5 +1,5 @@
 -- A struct that is added or completed leaves the other layouts as they are.
-use Rattle.std.proofs.Common.{◌≡◌, ℕ, zero, suc, true, false, ◌⊎◌, inl, inr, ◌+◌, ◌<◌, ◌≤◌, ◌++◌, ◌∷◌, [], List, length, map, Option, Some, None, refl, sym, ap, subst, ◌∙◌, arith, option_map, option_and_then, slice_get, slice_set, option_copied, IfSome, Bor}
+use Rattle.std.proofs.Common.{◌≡◌, ℕ, zero, suc, true, ◌⊎◌, inl, inr, ◌+◌, ◌++◌, ◌∷◌, [], List, Option, Some, None, refl, sym, ap, subst, ◌∙◌, option_map, option_and_then, slice_get, slice_set, option_copied, IfSome, Bor}
 use Rattle.ct_ctype.specs.declared.types.CType.{CType, roll-CType, map-CType, fold-roll-CType, ind-CType}
 use Rattle.ct_ctype.specs.declared.types.CType.TheOpen.{CType-F}
 use Rattle.ct_ctype.specs.declared.types.FunctionType.{FunctionType}

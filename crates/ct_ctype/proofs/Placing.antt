@@ -1,5 +1,5 @@
 -- The layout of a struct, member by member.
-use Rattle.std.proofs.Common.{◌≡◌, ℕ, zero, suc, subst, ◌+◌, ◌*◌, ◌<◌, ◌≤◌, ◌⊎◌, inl, inr, ◌++◌, ◌∷◌, [], List, length, take, drop, set, get_or, max, min, Option, Some, None, refl, sym, ap, ◌∙◌, arith, option_map, option_and_then, append_assoc, add-one, drop-cons, ⊎_elim}
+use Rattle.std.proofs.Common.{◌≡◌, ℕ, zero, suc, subst, ◌+◌, ◌<◌, ◌≤◌, ◌⊎◌, inl, inr, ◌++◌, ◌∷◌, [], List, length, take, drop, set, get_or, max, Option, Some, None, refl, sym, ap, ◌∙◌, arith, option_map, option_and_then, append_assoc, add-one, drop-cons, ⊎_elim}
 use mathlib.Core.Path.{ap₂}
 use Rattle.std.proofs.lemmas.Bool.{cases_lt}
 use Rattle.std.proofs.lemmas.Grind.{take-set_at, common_steps}

@@ -101,6 +101,8 @@ abbrev pub AllKept : Table → Type 0
 AllKept s = (which : ℕ) (layout : StructLayout) → layout_of s which ≡ Some layout → IsKept s layout
 
 -- the offset of the member of this name; of the first, if there are several
+abbrev pub member_offset : List ℕ → List Member → Option ℕ
+member_offset name ms = option_map (λ (m : Member). m.offset) (find (λ (m : Member). bytes_eq m.name name) ms)
+
 abbrev pub offset_in : Table → ℕ → List ℕ → Option ℕ
-offset_in s which name =
-    option_and_then (λ layout. option_map (λ (m : Member). m.offset) (find (λ (m : Member). bytes_eq m.name name) layout.members)) (layout_of s which)
+offset_in s which name = option_and_then (λ (layout : StructLayout). member_offset name layout.members) (layout_of s which)

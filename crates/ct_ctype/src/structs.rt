@@ -1,6 +1,6 @@
 //! Structs and the layout of types.
 
-ghost use Rattle.std.specs.Prelude.{◌≡◌, ◌-◌, ◌+◌, ◌<◌, ◌≤◌, ◌^◌, ◌++◌, ◌∷◌, [], length, None, IfOk, IfSome, is_some, unwrap_or, slice_get, OnOk, OnErr, option_map, find, bytes_eq};
+ghost use Rattle.std.specs.Prelude.{◌≡◌, ◌-◌, ◌+◌, ◌<◌, ◌≤◌, ◌^◌, ◌++◌, ◌∷◌, [], length, None, IfOk, IfSome, is_some, unwrap_or, slice_get, OnOk, OnErr, option_map};
 ghost use Rattle.std.specs.Int.{next_multiple_of};
 ghost use Rattle.std.specs.Option.{option_copied};
 ghost use Rattle.ct_ctype.specs.Layout as spec;
@@ -118,7 +118,7 @@ pub fn offset_of(s: &Structs, which: u32, member: &[u8]) -> Option<u64>
 
 /// The offset of the first member of a name.
 fn find_member(members: &[Member], name: &[u8]) -> Option<u64>
-    ensures { result ≡ option_map (λ m. m.offset) (find (λ m. bytes_eq m.name name.now) members.now) }
+    ensures { result ≡ spec.member_offset name.now members.now }
 {
     let member = members.iter().find(|m| m.name.as_slice() == name)?;
     Some(member.offset)

@@ -1,9 +1,9 @@
 use mathlib.Core.Path.{ap₂}
-use Rattle.std.proofs.Common.{◌≤◌, List, Option, ◌≡◌, ◌<◌, ◌+◌, length, max, None, Some, sym, ap, ◌∙◌, rules, arith, ℕ}
+use Rattle.std.proofs.Common.{◌≤◌, List, Option, ◌≡◌, ◌<◌, length, max, Some, sym, ap, ◌∙◌, rules, arith, ℕ}
 use Rattle.std.specs.Int.{next_multiple_of}
 use Rattle.ct_ctype.specs.declared.types.Member.{Member}
 use Rattle.ct_ctype.specs.declared.types.StructLayout.{StructLayout}
-use Rattle.ct_ctype.specs.Layout.{capped, extent_of, IsExtent}
+use Rattle.ct_ctype.specs.Layout.{capped}
 use Rattle.ct_ctype.proofs.Placing.{placing_start, placing_stop, placing_end, placing_next}
 use Rattle.ct_ctype.proofs.structs.laid_out.Goals as goal
 

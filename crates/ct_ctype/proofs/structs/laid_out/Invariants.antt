@@ -1,5 +1,3 @@
-use Rattle.std.proofs.Common.{◌≡◌, ◌<◌, ◌≤◌, length, take, drop}
-use Rattle.ct_ctype.specs.Layout.{laid_out}
 use Rattle.ct_ctype.proofs.Placing.{Placing}
 use Rattle.ct_ctype.proofs.structs.laid_out.Given as goal
 
