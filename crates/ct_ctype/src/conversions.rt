@@ -96,6 +96,7 @@ fn unsigned_of(k: IntKind) -> IntKind
 pub fn convert(v: i128, to: IntKind) -> i128
     ensures value { result ≡ spec.converted v to }
     ensures in_range { InRange to result }
+    ensures same { InRange to v → result ≡ v }
 {
     match to {
         IntKind::Bool => i128::from(v != 0),
@@ -107,6 +108,7 @@ pub fn convert(v: i128, to: IntKind) -> i128
 pub(crate) fn wrap(k: IntKind, v: i128) -> i128
     ensures value { result ≡ wrapped k v }
     ensures in_range { InRange k result }
+    ensures same { InRange k v → result ≡ v }
 {
     number_of(k, low_bits(k, v))
 }
