@@ -1,6 +1,6 @@
 //! Conversions between kinds of integers (C11 6.3.1).
 
-ghost use Rattle.std.specs.Prelude.{◌≡◌, ◌<◌, ◌^◌, pos};
+ghost use Rattle.std.specs.Prelude.{◌≡◌, ◌≢◌, ◌<◌, ◌^◌};
 ghost use Rattle.ct_ctype.specs.Ranges.{InRange, width, low_bits as spec_low_bits, number_of as spec_number_of, wrapped};
 ghost use Rattle.ct_ctype.specs.Conversion as spec;
 
@@ -97,6 +97,7 @@ pub fn convert(v: i128, to: IntKind) -> i128
     ensures value { result ≡ spec.converted v to }
     ensures in_range { InRange to result }
     ensures same { InRange to v → result ≡ v }
+    ensures low { to ≢ IntKind.Bool → spec_low_bits to result ≡ spec_low_bits to v }
 {
     match to {
         IntKind::Bool => i128::from(v != 0),
@@ -109,6 +110,7 @@ pub(crate) fn wrap(k: IntKind, v: i128) -> i128
     ensures value { result ≡ wrapped k v }
     ensures in_range { InRange k result }
     ensures same { InRange k v → result ≡ v }
+    ensures low { spec_low_bits k result ≡ spec_low_bits k v }
 {
     number_of(k, low_bits(k, v))
 }
@@ -126,6 +128,7 @@ pub(crate) fn number_of(k: IntKind, bits: u128) -> i128
     requires { bits < 2 ^ width k }
     ensures value { result ≡ spec_number_of k bits }
     ensures in_range { InRange k result }
+    ensures low { spec_low_bits k result ≡ bits }
 {
     let number = bits as i128;
     if number <= k.greatest() {
