@@ -8,6 +8,8 @@ mod conversions;
 mod kinds;
 mod operations;
 mod structs;
+#[cfg(test)]
+mod tests;
 mod types;
 
 pub use conversions::{common, convert, promote};

@@ -58,6 +58,13 @@ impl Structs {
         Ok(number)
     }
 
+    /// How many structs there are.
+    pub fn count(&self) -> usize
+        ensures { result ≡ length self.now }
+    {
+        self.layouts.len()
+    }
+
     /// Gives a struct its members, and sets their offsets. This is false, and changes nothing,
     /// exactly where there is no such struct, it is complete already, or a member has no size.
     pub fn complete(&mut self, which: u32, members: Vec<Member>) -> bool
