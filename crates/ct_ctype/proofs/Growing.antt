@@ -34,7 +34,7 @@ module _ (s s' : Table) (x : Extends s s') where
 
   layer_kept : (g g' : FunctionType → Unit {0}) (y : CType-F ((t : CType) × Kept t) ((f : FunctionType) × Unit {0}))
       → Within (extent_step s (map-CType CType FunctionType (Option Extent) (Unit {0}) (extent_of s) g (map-CType ((t : CType) × Kept t) ((f : FunctionType) × Unit {0}) CType FunctionType (λ p. p.0) (λ p. p.0) y)))
-               (extent_step s' (map-CType CType FunctionType (Option Extent) (Unit {0}) (extent_of s') g' (map-CType ((t : CType) × Kept t) ((f : FunctionType) × Unit {0}) CType FunctionType (λ p. p.0) (λ p. p.0) y)))
+      (extent_step s' (map-CType CType FunctionType (Option Extent) (Unit {0}) (extent_of s') g' (map-CType ((t : CType) × Kept t) ((f : FunctionType) × Unit {0}) CType FunctionType (λ p. p.0) (λ p. p.0) y)))
   layer_kept g g' CType-F.Void = same_within None
   layer_kept g g' (CType-F.Int k) = same_within _
   layer_kept g g' (CType-F.Pointer p constant) = same_within _
@@ -53,7 +53,7 @@ module _ (s s' : Table) (x : Extends s s') where
       let Q : Option Extent → Type 0 = λ o. Within o (extent_of s' (roll-CType l)) in
       let R : Option Extent → Type 0 = λ o. Within (first l) o in
       subst Q (sym (fold-roll-CType (Option Extent) (Unit {0}) (extent_step s) (λ f. tt) l))
-        (subst R (sym (fold-roll-CType (Option Extent) (Unit {0}) (extent_step s') (λ f. tt) l)) (subst P is (layer_kept none none y)))) (λ l y is. tt)
+      (subst R (sym (fold-roll-CType (Option Extent) (Unit {0}) (extent_step s') (λ f. tt) l)) (subst P is (layer_kept none none y)))) (λ l y is. tt)
 
   pub extents_kept : (ms : List Member) → Within (extents_of s ms) (extents_of s' ms)
   extents_kept [] = same_within (Some [])
@@ -134,13 +134,14 @@ laid_again s ms l h = go (extents_of s ms) refl h
         let is : struct_layout ms es ≡ l = cc in
         let P : StructLayout → Type 0 = λ l. laid_out s l.members ≡ Some l in
         subst P is (ap (option_map (struct_layout (placed 0 ms es))) (extents_of-placed s 0 ms es e)
-          ∙ ap (λ members. Some (record (struct_layout ms es) { members = members })) (placed-placed 0 ms es))
+        ∙ ap (λ members. Some (record (struct_layout ms es) { members = members })) (placed-placed 0 ms es))
 
 pub completed_kept : (s : Table) (at : ℕ) (ms : List Member) (new : StructLayout) → AllKept s → is_open (slice_get s at) ≡ true → laid_out s ms ≡ Some new → IsExtent new.extent → AllKept (slice_set s at (Some new))
 completed_kept s at ms new h is_so e bounded which l f = go (layout_of-set_cases s at new which l f)
   where
     extends : Extends s (slice_set s at (Some new))
     extends = record { kept = layout_of-set_kept s at new is_so }
+
     go : (l ≡ new) ⊎ (layout_of s which ≡ Some l) → IsKept (slice_set s at (Some new)) l
     go (inl is) = let P : StructLayout → Type 0 = λ l. IsKept (slice_set s at (Some new)) l in
         subst P (sym is) (record { laid = (laid_kept s _ extends new.members).found new (laid_again s ms new e); bounded = bounded })

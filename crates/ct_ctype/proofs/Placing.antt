@@ -66,8 +66,8 @@ place_step s done end alignment m ms e end' is h =
         let at : Member = record m { offset = capped (next_multiple_of end e.alignment) } in
         let a = largest (max alignment e.alignment) es in
         ap₂ (λ members size. Some (record { members = members; extent = record { size = size; alignment = a } }))
-          (ap (λ rest. done ++ at ∷ rest) (placed_alike ms es _ _ h) ∙ sym (append_assoc done (at ∷ []) (placed end' ms es)))
-          (capped_alike _ _ (next_alike _ _ a (end_alike es _ _ h)))
+        (ap (λ rest. done ++ at ∷ rest) (placed_alike ms es _ _ h) ∙ sym (append_assoc done (at ∷ []) (placed end' ms es)))
+        (capped_alike _ _ (next_alike _ _ a (end_alike es _ _ h)))
 
 pub place_stop : (s : Table) (done : List Member) (end alignment : ℕ) (m : Member) (ms : List Member) → extent_of s m.kind ≡ None → place_onto s done end alignment (m ∷ ms) ≡ None
 place_stop s done end alignment m ms is = ap (λ o. option_map (onto done end alignment (m ∷ ms)) (option_and_then (λ e. option_map (λ es. e ∷ es) (extents_of s ms)) o)) is
@@ -99,12 +99,12 @@ placing_step s start now i end alignment m e h lt at is kept =
     let a' = max alignment e.alignment in
     record {
       goes_on = ap₂ (λ done rest. place_onto s done end' a' rest) (take-set_at now i (i + 1) m' refl lt) (drop-set_past now i m' lt)
-        ∙ sym (place_step s (take i now) end alignment m (drop (i + 1) now) e end' is (alike_capped (next_multiple_of end e.alignment) e.size))
-        ∙ ap (place_onto s (take i now) end alignment) (sym (cut now i m lt at)) ∙ h.goes_on;
+          ∙ sym (place_step s (take i now) end alignment m (drop (i + 1) now) e end' is (alike_capped (next_multiple_of end e.alignment) e.size))
+          ∙ ap (place_onto s (take i now) end alignment) (sym (cut now i m lt at)) ∙ h.goes_on;
       same_length = length-set now i m' ∙ h.same_length;
       end_bound = omega arith;
       some = omega (arith, h.some);
-      bound = omega (arith, h.bound, kept.alignment)
+      bound = omega (arith, h.bound, kept.alignment);
     }
 
 pub placing_stop : (s : Table) (start now : List Member) (i end alignment : ℕ) (m : Member) → Placing s start now i end alignment → i < length now → m ≡ get_or now i m → extent_of s m.kind ≡ None → laid_out s start ≡ None
@@ -114,7 +114,7 @@ placing_stop s start now i end alignment m h lt at is =
 pub placing_end : (s : Table) (start now : List Member) (i end alignment : ℕ) → Placing s start now i end alignment → length now ≤ i → laid_out s start ≡ Some (record { members = now; extent = record { size = capped (next_multiple_of end alignment); alignment = alignment } })
 placing_end s start now i end alignment h le =
     sym h.goes_on ∙ ap₂ (λ done rest. place_onto s done end alignment rest) (take_all i now le) (drop_all i now le)
-      ∙ ap (λ members. Some (record { members = members; extent = record { size = capped (next_multiple_of end alignment); alignment = alignment } })) (append-nil now)
+    ∙ ap (λ members. Some (record { members = members; extent = record { size = capped (next_multiple_of end alignment); alignment = alignment } })) (append-nil now)
 
 same_item : {A : Type 0} (xs : List A) (i : ℕ) (x y : A) → i < length xs → x ≡ get_or xs i x → y ≡ get_or xs i y → x ≡ y
 same_item [] i x y lt p q = absurd (omega arith)

@@ -40,13 +40,7 @@ fn balance(a: IntKind, b: IntKind) -> IntKind
     match (a.is_signed(), b.is_signed()) {
         (true, false) => balance_signs(a, b),
         (false, true) => balance_signs(b, a),
-        _ => {
-            if rank(a) < rank(b) {
-                b
-            } else {
-                a
-            }
-        }
+        _ => { if rank(a) < rank(b) { b } else { a } }
     }
 }
 

@@ -51,10 +51,8 @@ impl IntKind {
             IntKind::Char | IntKind::SignedChar | IntKind::UnsignedChar => 8,
             IntKind::Short | IntKind::UnsignedShort => 16,
             IntKind::Int | IntKind::UnsignedInt => 32,
-            IntKind::Long
-            | IntKind::UnsignedLong
-            | IntKind::LongLong
-            | IntKind::UnsignedLongLong => 64,
+            IntKind::Long | IntKind::UnsignedLong | IntKind::LongLong | IntKind::UnsignedLongLong =>
+                64,
         }
     }
 

@@ -21,7 +21,6 @@ pub struct Structs {
 impl Model for Structs {
     ghost use Rattle.std.specs.Prelude.{List, Option};
     ghost use Rattle.ct_ctype.specs.declared.types.StructLayout.{StructLayout};
-
     ghost use Rattle.ct_ctype.specs.contracts.types.CType as ctype;
     ghost use Rattle.std.specs.Coded.{codes};
 

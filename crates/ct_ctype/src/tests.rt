@@ -1,11 +1,9 @@
 //! Tests on values worked out by hand from the rules.
 
-
-
 mod layouts;
 
-use crate::{IntKind, binary, common, convert, promote, unary};
 use crate::IntKind::*;
+use crate::{IntKind, binary, common, convert, promote, unary};
 use ct_base::{BinaryOp, FaultKind, UnaryOp};
 use std::process::Abort;
 
@@ -75,7 +73,11 @@ fn conversions_to_bool_and_from_afar(rt: HostRuntime) {
         (-129, Char, 127),
         (170141183460469231731687303715884105727, Int, -1),
         (-170141183460469231731687303715884105728, Int, 0),
-        (170141183460469231731687303715884105727, UnsignedLong, 18446744073709551615),
+        (
+            170141183460469231731687303715884105727,
+            UnsignedLong,
+            18446744073709551615,
+        ),
         (-170141183460469231731687303715884105728, Bool, 1),
         (4294967295, Int, -1),
         (-1, UnsignedLongLong, 18446744073709551615),
@@ -84,7 +86,6 @@ fn conversions_to_bool_and_from_afar(rt: HostRuntime) {
         assert_eq!(rt; convert(v, to), wanted);
     }
 }
-
 
 #[test]
 fn promotions_of_each_kind(rt: HostRuntime) {
@@ -250,12 +251,24 @@ fn sums_differences_and_products_at_the_ends(rt: HostRuntime) {
         (BinaryOp::Subtract, Int, -2147483648, 1, over),
         (BinaryOp::Subtract, LongLong, 0, -9223372036854775808, over),
         (BinaryOp::Subtract, UnsignedInt, 0, 1, Ok(4294967295)),
-        (BinaryOp::Subtract, UnsignedLongLong, 3, 5, Ok(18446744073709551614)),
+        (
+            BinaryOp::Subtract,
+            UnsignedLongLong,
+            3,
+            5,
+            Ok(18446744073709551614),
+        ),
         (BinaryOp::Multiply, Int, 46341, 46340, Ok(2147441940)),
         (BinaryOp::Multiply, Int, 46341, 46341, over),
         (BinaryOp::Multiply, Int, -65536, 32768, Ok(-2147483648)),
         (BinaryOp::Multiply, Int, -2147483648, -1, over),
-        (BinaryOp::Multiply, Long, -9223372036854775808, -9223372036854775808, over),
+        (
+            BinaryOp::Multiply,
+            Long,
+            -9223372036854775808,
+            -9223372036854775808,
+            over,
+        ),
         (BinaryOp::Multiply, UnsignedInt, 65536, 65537, Ok(65536)),
         (
             BinaryOp::Multiply,
@@ -264,7 +277,13 @@ fn sums_differences_and_products_at_the_ends(rt: HostRuntime) {
             18446744073709551615,
             Ok(1),
         ),
-        (BinaryOp::Multiply, UnsignedLongLong, 4294967296, 4294967296, Ok(0)),
+        (
+            BinaryOp::Multiply,
+            UnsignedLongLong,
+            4294967296,
+            4294967296,
+            Ok(0),
+        ),
         (BinaryOp::Multiply, UnsignedInt, 0, 4294967295, Ok(0)),
     ];
     for row in rows {
@@ -292,10 +311,22 @@ fn quotients_are_cut_and_remainders_take_the_sign_of_the_dividend(rt: HostRuntim
         (BinaryOp::Remainder, Int, 7, -2, Ok(1)),
         (BinaryOp::Remainder, Int, -7, -2, Ok(-1)),
         (BinaryOp::Remainder, Int, -2147483648, -1, over),
-        (BinaryOp::Remainder, LongLong, -9223372036854775808, -1, over),
+        (
+            BinaryOp::Remainder,
+            LongLong,
+            -9223372036854775808,
+            -1,
+            over,
+        ),
         (BinaryOp::Remainder, Int, 5, 0, zero),
         (BinaryOp::Remainder, UnsignedLong, 5, 0, zero),
-        (BinaryOp::Remainder, UnsignedLong, 18446744073709551615, 10, Ok(5)),
+        (
+            BinaryOp::Remainder,
+            UnsignedLong,
+            18446744073709551615,
+            10,
+            Ok(5),
+        ),
         (BinaryOp::Remainder, Int, -8, 4, Ok(0)),
     ];
     for row in rows {
@@ -321,7 +352,13 @@ fn shifts_at_each_end_of_their_range(rt: HostRuntime) {
         (BinaryOp::ShiftLeft, Long, 1, 62, Ok(4611686018427387904)),
         (BinaryOp::ShiftLeft, Long, 1, 63, range),
         (BinaryOp::ShiftLeft, LongLong, 1, 64, range),
-        (BinaryOp::ShiftLeft, UnsignedLong, 1, 63, Ok(9223372036854775808)),
+        (
+            BinaryOp::ShiftLeft,
+            UnsignedLong,
+            1,
+            63,
+            Ok(9223372036854775808),
+        ),
         (
             BinaryOp::ShiftLeft,
             UnsignedLongLong,
@@ -346,7 +383,13 @@ fn shifts_at_each_end_of_their_range(rt: HostRuntime) {
         (BinaryOp::ShiftRight, Int, 1, -1, range),
         (BinaryOp::ShiftRight, UnsignedInt, 4294967295, 31, Ok(1)),
         (BinaryOp::ShiftRight, Long, -9223372036854775808, 63, Ok(-1)),
-        (BinaryOp::ShiftRight, UnsignedLong, 18446744073709551615, 63, Ok(1)),
+        (
+            BinaryOp::ShiftRight,
+            UnsignedLong,
+            18446744073709551615,
+            63,
+            Ok(1),
+        ),
         (BinaryOp::ShiftRight, UnsignedLong, 1, 64, range),
         (
             BinaryOp::ShiftRight,
@@ -394,9 +437,21 @@ fn bits_are_those_of_two_complement(rt: HostRuntime) {
         (BinaryOp::And, Int, -1, 255, Ok(255)),
         (BinaryOp::Or, Int, -2147483648, 1, Ok(-2147483647)),
         (BinaryOp::Xor, Int, -1, 0, Ok(-1)),
-        (BinaryOp::Xor, Long, -1, 9223372036854775807, Ok(-9223372036854775808)),
+        (
+            BinaryOp::Xor,
+            Long,
+            -1,
+            9223372036854775807,
+            Ok(-9223372036854775808),
+        ),
         (BinaryOp::Or, UnsignedInt, 2147483648, 1, Ok(2147483649)),
-        (BinaryOp::And, UnsignedLong, 18446744073709551615, 4294967296, Ok(4294967296)),
+        (
+            BinaryOp::And,
+            UnsignedLong,
+            18446744073709551615,
+            4294967296,
+            Ok(4294967296),
+        ),
     ];
     for row in rows {
         check_binary(&rt, row);
@@ -408,15 +463,30 @@ fn operators_of_one_number(rt: HostRuntime) {
     let rows: [(UnaryOp, IntKind, i128, Result<i128, FaultKind>); 14] = [
         (UnaryOp::Plus, Int, -5, Ok(-5)),
         (UnaryOp::Minus, Int, 5, Ok(-5)),
-        (UnaryOp::Minus, Int, -2147483648, Err(FaultKind::SignedOverflow)),
-        (UnaryOp::Minus, Long, -9223372036854775808, Err(FaultKind::SignedOverflow)),
+        (
+            UnaryOp::Minus,
+            Int,
+            -2147483648,
+            Err(FaultKind::SignedOverflow),
+        ),
+        (
+            UnaryOp::Minus,
+            Long,
+            -9223372036854775808,
+            Err(FaultKind::SignedOverflow),
+        ),
         (UnaryOp::Minus, UnsignedInt, 1, Ok(4294967295)),
         (UnaryOp::Minus, UnsignedLong, 0, Ok(0)),
         (UnaryOp::Complement, Int, 0, Ok(-1)),
         (UnaryOp::Complement, Int, -1, Ok(0)),
         (UnaryOp::Complement, Int, 2147483647, Ok(-2147483648)),
         (UnaryOp::Complement, UnsignedInt, 0, Ok(4294967295)),
-        (UnaryOp::Complement, UnsignedLong, 1, Ok(18446744073709551614)),
+        (
+            UnaryOp::Complement,
+            UnsignedLong,
+            1,
+            Ok(18446744073709551614),
+        ),
         (UnaryOp::Not, Int, 0, Ok(1)),
         (UnaryOp::Not, Int, -7, Ok(0)),
         (UnaryOp::Not, UnsignedLong, 18446744073709551615, Ok(0)),

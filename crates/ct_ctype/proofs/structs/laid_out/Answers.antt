@@ -24,7 +24,7 @@ loop-i-preserved c =
     let larger : c.max-alignment.result ≡ max l.alignment e.alignment = search rules in
     let offset : c.capped-offset.result ≡ capped (next_multiple_of l.end e.alignment) = c.capped-offset.ensures ∙ ap capped c.aligned.ensures.value in
     placing_next c.args.s.now c.args.members.items l.members.items l.i l.end l.alignment c.index.result.now c.index_mut.result.now e c.capped-offset.result c.capped-end.result c.max-alignment.result
-      l.invariant within c.index.ensures c.index_mut.ensures.value (sym c.extent.ensures.value ∙ c.in_ok-extent.was) (c.in_ok-extent.ensures.kept) offset c.capped-end.ensures larger
+    l.invariant within c.index.ensures c.index_mut.ensures.value (sym c.extent.ensures.value ∙ c.in_ok-extent.was) (c.in_ok-extent.ensures.kept) offset c.capped-end.ensures larger
 
 pub returns-clause-value : goal.returns-clause-value
 returns-clause-value c =

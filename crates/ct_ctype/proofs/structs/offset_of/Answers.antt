@@ -7,4 +7,4 @@ pub returns : goal.returns
 returns c =
     let name = c.args.member.now in
     c.find_member.ensures ∙ ap (member_offset name) c.as_slice.ensures
-      ∙ ap (option_and_then (λ (layout : StructLayout). member_offset name layout.members)) c.in_ok-layout.ensures.value
+    ∙ ap (option_and_then (λ (layout : StructLayout). member_offset name layout.members)) c.in_ok-layout.ensures.value

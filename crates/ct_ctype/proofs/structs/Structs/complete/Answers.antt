@@ -8,6 +8,6 @@ invariant_of-self c =
     let s = c.self.inside.layouts in
     let ms = c.args.members.items in
     let stands : is_open (slice_get s c.args.which) ≡ true =
-        ap (λ (t : Table). is_open (slice_get t c.args.which)) c.self.view_is ∙ sym c.is_open.ensures ∙ c.if-not-is_open.false in
+    ap (λ (t : Table). is_open (slice_get t c.args.which)) c.self.view_is ∙ sym c.is_open.ensures ∙ c.if-not-is_open.false in
     let laid : laid_out s ms ≡ Some c.in-Some.layout = ap (λ (t : Table). laid_out t ms) c.self.view_is ∙ sym c.laid_out.ensures.value ∙ c.in-Some.is in
     subst AllKept (sym c.set.ensures) (completed_kept s c.args.which ms c.in-Some.layout c.self.invariant stands laid c.in-Some.ensures.kept)
