@@ -138,11 +138,10 @@ fn remainder(k: IntKind, left: i128, right: i128) -> Result<i128, FaultKind>
     if right == 0 {
         return Err(FaultKind::DivideByZero);
     }
-    if k.holds(quotient(k, left, right)) {
-        Ok(rest(k, left, right))
-    } else {
-        Err(FaultKind::SignedOverflow)
+    if !k.holds(quotient(k, left, right)) {
+        return Err(FaultKind::SignedOverflow);
     }
+    Ok(rest(k, left, right))
 }
 
 /// The quotient, rounded toward zero.
