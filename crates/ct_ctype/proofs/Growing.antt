@@ -1,5 +1,5 @@
 -- A struct that is added or completed leaves the other layouts as they are.
-use Rattle.std.proofs.Common.{◌≡◌, ℕ, zero, suc, true, ◌⊎◌, inl, inr, ◌+◌, ◌++◌, ◌∷◌, [], List, Option, Some, None, refl, sym, ap, subst, ◌∙◌, option_map, option_and_then, slice_get, slice_set, option_copied, IfSome, Bor}
+use Rattle.std.proofs.Common.{⊎_elim, ◌≡◌, ℕ, zero, suc, true, ◌⊎◌, inl, inr, ◌+◌, ◌++◌, ◌∷◌, [], List, Option, Some, None, refl, sym, ap, subst, ◌∙◌, option_map, option_and_then, slice_get, slice_set, option_copied, IfSome, Bor}
 use Rattle.ct_ctype.specs.declared.types.CType.{CType, roll-CType, map-CType, fold-roll-CType, ind-CType}
 use Rattle.ct_ctype.specs.declared.types.CType.TheOpen.{CType-F}
 use Rattle.ct_ctype.specs.declared.types.FunctionType.{FunctionType}
@@ -67,7 +67,7 @@ module _ (s s' : Table) (x : Extends s s') where
 
 -- ---- a struct more
 
-layout_of-declared : (s : Table) (which : ℕ) → layout_of (s ++ None ∷ []) which ≡ layout_of s which
+pub layout_of-declared : (s : Table) (which : ℕ) → layout_of (s ++ None ∷ []) which ≡ layout_of s which
 layout_of-declared [] zero = refl
 layout_of-declared [] (suc which) = refl
 layout_of-declared (o ∷ s) zero = refl
@@ -87,22 +87,22 @@ layout_of-set_kept (o ∷ s) zero new is_so (suc which) l e = e
 layout_of-set_kept (o ∷ s) (suc at) new is_so zero l e = e
 layout_of-set_kept (o ∷ s) (suc at) new is_so (suc which) l e = layout_of-set_kept s at new is_so which l e
 
-layout_of-set_cases : (s : Table) (at : ℕ) (new : StructLayout) (which : ℕ) (l : StructLayout) → layout_of (slice_set s at (Some new)) which ≡ Some l → (l ≡ new) ⊎ (layout_of s which ≡ Some l)
+pub layout_of-set_cases : (s : Table) (at : ℕ) (new : StructLayout) (which : ℕ) (l : StructLayout) → layout_of (slice_set s at (Some new)) which ≡ Some l → ((which ≡ at) × (l ≡ new)) ⊎ (layout_of s which ≡ Some l)
 layout_of-set_cases [] at new which l e = inr e
-layout_of-set_cases (o ∷ s) zero new zero l e = inl (cc)
+layout_of-set_cases (o ∷ s) zero new zero l e = inl (refl, cc)
 layout_of-set_cases (o ∷ s) zero new (suc which) l e = inr e
 layout_of-set_cases (o ∷ s) (suc at) new zero l e = inr e
-layout_of-set_cases (o ∷ s) (suc at) new (suc which) l e = layout_of-set_cases s at new which l e
+layout_of-set_cases (o ∷ s) (suc at) new (suc which) l e = ⊎_elim (λ (p : (which ≡ at) × (l ≡ new)). inl (ap (λ n. suc n) p.0, p.1)) (λ old. inr old) (layout_of-set_cases s at new which l e)
 
 -- the extents of the members are that of the first and those of the others
-record Parts (o : Option Extent) (p : Option (List Extent)) (es : List Extent) : Type 0 where
+pub record Parts (o : Option Extent) (p : Option (List Extent)) (es : List Extent) : Type 0 where
   pub first : Extent
   pub rest : List Extent
   pub first_is : o ≡ Some first
   pub rest_is : p ≡ Some rest
   pub all_is : es ≡ first ∷ rest
 
-parts : (o : Option Extent) (p : Option (List Extent)) (es : List Extent) → option_and_then (λ e. option_map (λ es. e ∷ es) p) o ≡ Some es → Parts o p es
+pub parts : (o : Option Extent) (p : Option (List Extent)) (es : List Extent) → option_and_then (λ e. option_map (λ es. e ∷ es) p) o ≡ Some es → Parts o p es
 parts None p es h = absurd (cc)
 parts (Some e) None es h = absurd (cc)
 parts (Some e) (Some rest) es h = record { first = e; rest = rest; first_is = refl; rest_is = refl; all_is = cc }
@@ -125,7 +125,7 @@ placed-placed from (m ∷ ms) (e ∷ es) =
     ap (λ l. record m { offset = capped at } ∷ l) (placed-placed (at + e.size) ms es)
 
 -- the members with their offsets have the same layout
-laid_again : (s : Table) (ms : List Member) (l : StructLayout) → laid_out s ms ≡ Some l → laid_out s l.members ≡ Some l
+pub laid_again : (s : Table) (ms : List Member) (l : StructLayout) → laid_out s ms ≡ Some l → laid_out s l.members ≡ Some l
 laid_again s ms l h = go (extents_of s ms) refl h
   where
     go : (o : Option (List Extent)) → extents_of s ms ≡ o → option_map (struct_layout ms) o ≡ Some l → laid_out s l.members ≡ Some l
@@ -142,9 +142,9 @@ completed_kept s at ms new h is_so e bounded which l f = go (layout_of-set_cases
     extends : Extends s (slice_set s at (Some new))
     extends = record { kept = layout_of-set_kept s at new is_so }
 
-    go : (l ≡ new) ⊎ (layout_of s which ≡ Some l) → IsKept (slice_set s at (Some new)) l
+    go : ((which ≡ at) × (l ≡ new)) ⊎ (layout_of s which ≡ Some l) → IsKept (slice_set s at (Some new)) l
     go (inl is) = let P : StructLayout → Type 0 = λ l. IsKept (slice_set s at (Some new)) l in
-        subst P (sym is) (record { laid = (laid_kept s _ extends new.members).found new (laid_again s ms new e); bounded = bounded })
+        subst P (sym is.1) (record { laid = (laid_kept s _ extends new.members).found new (laid_again s ms new e); bounded = bounded })
     go (inr old) = still_kept s _ extends l (h which l old)
 
 -- ---- a struct looked up

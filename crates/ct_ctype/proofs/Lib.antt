@@ -3,3 +3,4 @@ pub mod Dividing
 pub mod InRanges
 pub mod Growing
 pub mod Placing
+pub mod Acyclic

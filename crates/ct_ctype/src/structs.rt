@@ -28,11 +28,11 @@ impl Model for Structs {
 
     ghost coded = { Prim.hlevel (codes, ctype.the_row.coded) };
 
-    ghost use Rattle.ct_ctype.specs.Layout.{AllKept};
+    ghost use Rattle.ct_ctype.specs.Layout.{IsSound};
 
     ghost view = { λ s. s.layouts };
 
-    ghost invariant = { λ s. AllKept s.layouts };
+    ghost invariant = { λ s. IsSound s.layouts };
 }
 
 impl Structs {
@@ -66,6 +66,7 @@ impl Structs {
 
     /// Gives a struct its members, and sets their offsets. This is false, and changes nothing,
     /// exactly where there is no such struct, it is complete already, or a member has no size.
+    /// The struct itself has none yet, so no struct holds itself.
     pub fn complete(&mut self, which: u32, members: Vec<Member>) -> bool
         ensures answer { result ≡ is_some (spec.completed self.old which members.items) }
         ensures after { self.new ≡ unwrap_or (spec.completed self.old which members.items) self.old }
@@ -89,10 +90,12 @@ impl Structs {
         matches!(self.layouts.get(which as usize), Some(None))
     }
 
-    /// The layout of a struct, where it is complete: that which its members have.
+    /// The layout of a struct, where it is complete. It is that which its members have, and no
+    /// struct holds itself, also through others.
     pub fn layout(&self, which: u32) -> Option<&StructLayout>
         ensures value { option_copied result ≡ spec.layout_of self.now which }
         ensures kept { IfSome result (λ layout. spec.IsKept self.now layout.now) }
+        ensures acyclic { spec.IsAcyclic self.now }
     {
         self.layouts.get(which as usize)?.as_ref()
     }
