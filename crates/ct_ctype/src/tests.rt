@@ -7,55 +7,56 @@ use crate::{IntKind, binary, common, convert, promote, unary};
 use ct_base::{BinaryOp, FaultKind, UnaryOp};
 use std::process::Abort;
 
+const CONVERSIONS_AT_ENDS: [(i128, IntKind, i128); 44] = [
+    (-128, Char, -128),
+    (-129, Char, 127),
+    (127, Char, 127),
+    (128, Char, -128),
+    (-128, SignedChar, -128),
+    (-129, SignedChar, 127),
+    (127, SignedChar, 127),
+    (128, SignedChar, -128),
+    (0, UnsignedChar, 0),
+    (-1, UnsignedChar, 255),
+    (255, UnsignedChar, 255),
+    (256, UnsignedChar, 0),
+    (-32768, Short, -32768),
+    (-32769, Short, 32767),
+    (32767, Short, 32767),
+    (32768, Short, -32768),
+    (0, UnsignedShort, 0),
+    (-1, UnsignedShort, 65535),
+    (65535, UnsignedShort, 65535),
+    (65536, UnsignedShort, 0),
+    (-2147483648, Int, -2147483648),
+    (-2147483649, Int, 2147483647),
+    (2147483647, Int, 2147483647),
+    (2147483648, Int, -2147483648),
+    (0, UnsignedInt, 0),
+    (-1, UnsignedInt, 4294967295),
+    (4294967295, UnsignedInt, 4294967295),
+    (4294967296, UnsignedInt, 0),
+    (-9223372036854775808, Long, -9223372036854775808),
+    (-9223372036854775809, Long, 9223372036854775807),
+    (9223372036854775807, Long, 9223372036854775807),
+    (9223372036854775808, Long, -9223372036854775808),
+    (0, UnsignedLong, 0),
+    (-1, UnsignedLong, 18446744073709551615),
+    (18446744073709551615, UnsignedLong, 18446744073709551615),
+    (18446744073709551616, UnsignedLong, 0),
+    (-9223372036854775808, LongLong, -9223372036854775808),
+    (-9223372036854775809, LongLong, 9223372036854775807),
+    (9223372036854775807, LongLong, 9223372036854775807),
+    (9223372036854775808, LongLong, -9223372036854775808),
+    (0, UnsignedLongLong, 0),
+    (-1, UnsignedLongLong, 18446744073709551615),
+    (18446744073709551615, UnsignedLongLong, 18446744073709551615),
+    (18446744073709551616, UnsignedLongLong, 0),
+];
+
 #[test]
 fn conversions_at_the_ends_of_each_kind(rt: HostRuntime) {
-    let rows: [(i128, IntKind, i128); 44] = [
-        (-128, Char, -128),
-        (-129, Char, 127),
-        (127, Char, 127),
-        (128, Char, -128),
-        (-128, SignedChar, -128),
-        (-129, SignedChar, 127),
-        (127, SignedChar, 127),
-        (128, SignedChar, -128),
-        (0, UnsignedChar, 0),
-        (-1, UnsignedChar, 255),
-        (255, UnsignedChar, 255),
-        (256, UnsignedChar, 0),
-        (-32768, Short, -32768),
-        (-32769, Short, 32767),
-        (32767, Short, 32767),
-        (32768, Short, -32768),
-        (0, UnsignedShort, 0),
-        (-1, UnsignedShort, 65535),
-        (65535, UnsignedShort, 65535),
-        (65536, UnsignedShort, 0),
-        (-2147483648, Int, -2147483648),
-        (-2147483649, Int, 2147483647),
-        (2147483647, Int, 2147483647),
-        (2147483648, Int, -2147483648),
-        (0, UnsignedInt, 0),
-        (-1, UnsignedInt, 4294967295),
-        (4294967295, UnsignedInt, 4294967295),
-        (4294967296, UnsignedInt, 0),
-        (-9223372036854775808, Long, -9223372036854775808),
-        (-9223372036854775809, Long, 9223372036854775807),
-        (9223372036854775807, Long, 9223372036854775807),
-        (9223372036854775808, Long, -9223372036854775808),
-        (0, UnsignedLong, 0),
-        (-1, UnsignedLong, 18446744073709551615),
-        (18446744073709551615, UnsignedLong, 18446744073709551615),
-        (18446744073709551616, UnsignedLong, 0),
-        (-9223372036854775808, LongLong, -9223372036854775808),
-        (-9223372036854775809, LongLong, 9223372036854775807),
-        (9223372036854775807, LongLong, 9223372036854775807),
-        (9223372036854775808, LongLong, -9223372036854775808),
-        (0, UnsignedLongLong, 0),
-        (-1, UnsignedLongLong, 18446744073709551615),
-        (18446744073709551615, UnsignedLongLong, 18446744073709551615),
-        (18446744073709551616, UnsignedLongLong, 0),
-    ];
-    for (v, to, wanted) in rows {
+    for (v, to, wanted) in CONVERSIONS_AT_ENDS {
         assert_eq!(rt; convert(v, to), wanted);
     }
 }
@@ -216,11 +217,22 @@ fn the_common_kind_of_each_pair(rt: HostRuntime) {
         (UnsignedLongLong, [UnsignedLongLong; 12]),
     ];
     for (a, wanted) in rows {
-        for i in 0..12 {
-            assert_eq!(rt; common(a, KINDS[i]), wanted[i]);
-        }
+        check_common(&rt, a, wanted);
     }
 }
+
+/// Compares what a kind has in common with each kind.
+fn check_common(rt: &impl Abort, a: IntKind, wanted: [IntKind; 12]) {
+    for i in 0..12 {
+        assert_eq!(rt; common(a, KINDS[i]), wanted[i]);
+    }
+}
+
+const OVER: Result<i128, FaultKind> = Err(FaultKind::SignedOverflow);
+
+const ZERO: Result<i128, FaultKind> = Err(FaultKind::DivideByZero);
+
+const RANGE: Result<i128, FaultKind> = Err(FaultKind::ShiftRange);
 
 type BinaryRow = (BinaryOp, IntKind, i128, i128, Result<i128, FaultKind>);
 
@@ -237,172 +249,180 @@ fn check_binary(rt: &impl Abort, row: BinaryRow) {
     }
 }
 
+const SUMS_AND_PRODUCTS: [BinaryRow; 20] = [
+    (BinaryOp::Add, Int, 2147483646, 1, Ok(2147483647)),
+    (BinaryOp::Add, Int, 2147483647, 1, OVER),
+    (BinaryOp::Add, Int, -2147483648, -1, OVER),
+    (BinaryOp::Add, Long, 9223372036854775807, 1, OVER),
+    (BinaryOp::Add, UnsignedInt, 4294967295, 1, Ok(0)),
+    (BinaryOp::Add, UnsignedLong, 18446744073709551615, 2, Ok(1)),
+    (BinaryOp::Subtract, Int, -2147483647, 1, Ok(-2147483648)),
+    (BinaryOp::Subtract, Int, -2147483648, 1, OVER),
+    (BinaryOp::Subtract, LongLong, 0, -9223372036854775808, OVER),
+    (BinaryOp::Subtract, UnsignedInt, 0, 1, Ok(4294967295)),
+    (
+        BinaryOp::Subtract,
+        UnsignedLongLong,
+        3,
+        5,
+        Ok(18446744073709551614),
+    ),
+    (BinaryOp::Multiply, Int, 46341, 46340, Ok(2147441940)),
+    (BinaryOp::Multiply, Int, 46341, 46341, OVER),
+    (BinaryOp::Multiply, Int, -65536, 32768, Ok(-2147483648)),
+    (BinaryOp::Multiply, Int, -2147483648, -1, OVER),
+    (
+        BinaryOp::Multiply,
+        Long,
+        -9223372036854775808,
+        -9223372036854775808,
+        OVER,
+    ),
+    (BinaryOp::Multiply, UnsignedInt, 65536, 65537, Ok(65536)),
+    (
+        BinaryOp::Multiply,
+        UnsignedLong,
+        18446744073709551615,
+        18446744073709551615,
+        Ok(1),
+    ),
+    (
+        BinaryOp::Multiply,
+        UnsignedLongLong,
+        4294967296,
+        4294967296,
+        Ok(0),
+    ),
+    (BinaryOp::Multiply, UnsignedInt, 0, 4294967295, Ok(0)),
+];
+
 #[test]
 fn sums_differences_and_products_at_the_ends(rt: HostRuntime) {
-    let over = Err(FaultKind::SignedOverflow);
-    let rows: [BinaryRow; 20] = [
-        (BinaryOp::Add, Int, 2147483646, 1, Ok(2147483647)),
-        (BinaryOp::Add, Int, 2147483647, 1, over),
-        (BinaryOp::Add, Int, -2147483648, -1, over),
-        (BinaryOp::Add, Long, 9223372036854775807, 1, over),
-        (BinaryOp::Add, UnsignedInt, 4294967295, 1, Ok(0)),
-        (BinaryOp::Add, UnsignedLong, 18446744073709551615, 2, Ok(1)),
-        (BinaryOp::Subtract, Int, -2147483647, 1, Ok(-2147483648)),
-        (BinaryOp::Subtract, Int, -2147483648, 1, over),
-        (BinaryOp::Subtract, LongLong, 0, -9223372036854775808, over),
-        (BinaryOp::Subtract, UnsignedInt, 0, 1, Ok(4294967295)),
-        (
-            BinaryOp::Subtract,
-            UnsignedLongLong,
-            3,
-            5,
-            Ok(18446744073709551614),
-        ),
-        (BinaryOp::Multiply, Int, 46341, 46340, Ok(2147441940)),
-        (BinaryOp::Multiply, Int, 46341, 46341, over),
-        (BinaryOp::Multiply, Int, -65536, 32768, Ok(-2147483648)),
-        (BinaryOp::Multiply, Int, -2147483648, -1, over),
-        (
-            BinaryOp::Multiply,
-            Long,
-            -9223372036854775808,
-            -9223372036854775808,
-            over,
-        ),
-        (BinaryOp::Multiply, UnsignedInt, 65536, 65537, Ok(65536)),
-        (
-            BinaryOp::Multiply,
-            UnsignedLong,
-            18446744073709551615,
-            18446744073709551615,
-            Ok(1),
-        ),
-        (
-            BinaryOp::Multiply,
-            UnsignedLongLong,
-            4294967296,
-            4294967296,
-            Ok(0),
-        ),
-        (BinaryOp::Multiply, UnsignedInt, 0, 4294967295, Ok(0)),
-    ];
-    for row in rows {
+    for row in SUMS_AND_PRODUCTS {
         check_binary(&rt, row);
     }
 }
+
+const QUOTIENTS: [BinaryRow; 20] = [
+    (BinaryOp::Divide, Int, 7, 2, Ok(3)),
+    (BinaryOp::Divide, Int, -7, 2, Ok(-3)),
+    (BinaryOp::Divide, Int, 7, -2, Ok(-3)),
+    (BinaryOp::Divide, Int, -7, -2, Ok(3)),
+    (BinaryOp::Divide, Int, -2147483648, -1, OVER),
+    (BinaryOp::Divide, Int, -2147483648, 1, Ok(-2147483648)),
+    (BinaryOp::Divide, Long, -9223372036854775808, -1, OVER),
+    (BinaryOp::Divide, Int, 1, 0, ZERO),
+    (BinaryOp::Divide, UnsignedInt, 0, 0, ZERO),
+    (BinaryOp::Divide, UnsignedInt, 4294967295, 2, Ok(2147483647)),
+    (BinaryOp::Remainder, Int, 7, 2, Ok(1)),
+    (BinaryOp::Remainder, Int, -7, 2, Ok(-1)),
+    (BinaryOp::Remainder, Int, 7, -2, Ok(1)),
+    (BinaryOp::Remainder, Int, -7, -2, Ok(-1)),
+    (BinaryOp::Remainder, Int, -2147483648, -1, OVER),
+    (
+        BinaryOp::Remainder,
+        LongLong,
+        -9223372036854775808,
+        -1,
+        OVER,
+    ),
+    (BinaryOp::Remainder, Int, 5, 0, ZERO),
+    (BinaryOp::Remainder, UnsignedLong, 5, 0, ZERO),
+    (
+        BinaryOp::Remainder,
+        UnsignedLong,
+        18446744073709551615,
+        10,
+        Ok(5),
+    ),
+    (BinaryOp::Remainder, Int, -8, 4, Ok(0)),
+];
 
 #[test]
 fn quotients_are_cut_and_remainders_take_the_sign_of_the_dividend(rt: HostRuntime) {
-    let over = Err(FaultKind::SignedOverflow);
-    let zero = Err(FaultKind::DivideByZero);
-    let rows: [BinaryRow; 20] = [
-        (BinaryOp::Divide, Int, 7, 2, Ok(3)),
-        (BinaryOp::Divide, Int, -7, 2, Ok(-3)),
-        (BinaryOp::Divide, Int, 7, -2, Ok(-3)),
-        (BinaryOp::Divide, Int, -7, -2, Ok(3)),
-        (BinaryOp::Divide, Int, -2147483648, -1, over),
-        (BinaryOp::Divide, Int, -2147483648, 1, Ok(-2147483648)),
-        (BinaryOp::Divide, Long, -9223372036854775808, -1, over),
-        (BinaryOp::Divide, Int, 1, 0, zero),
-        (BinaryOp::Divide, UnsignedInt, 0, 0, zero),
-        (BinaryOp::Divide, UnsignedInt, 4294967295, 2, Ok(2147483647)),
-        (BinaryOp::Remainder, Int, 7, 2, Ok(1)),
-        (BinaryOp::Remainder, Int, -7, 2, Ok(-1)),
-        (BinaryOp::Remainder, Int, 7, -2, Ok(1)),
-        (BinaryOp::Remainder, Int, -7, -2, Ok(-1)),
-        (BinaryOp::Remainder, Int, -2147483648, -1, over),
-        (
-            BinaryOp::Remainder,
-            LongLong,
-            -9223372036854775808,
-            -1,
-            over,
-        ),
-        (BinaryOp::Remainder, Int, 5, 0, zero),
-        (BinaryOp::Remainder, UnsignedLong, 5, 0, zero),
-        (
-            BinaryOp::Remainder,
-            UnsignedLong,
-            18446744073709551615,
-            10,
-            Ok(5),
-        ),
-        (BinaryOp::Remainder, Int, -8, 4, Ok(0)),
-    ];
-    for row in rows {
+    for row in QUOTIENTS {
         check_binary(&rt, row);
     }
 }
 
+const SHIFTS: [BinaryRow; 30] = [
+    (BinaryOp::ShiftLeft, Int, 1, 0, Ok(1)),
+    (BinaryOp::ShiftLeft, Int, 1, 30, Ok(1073741824)),
+    (BinaryOp::ShiftLeft, Int, 1, 31, RANGE),
+    (BinaryOp::ShiftLeft, Int, 0, 31, Ok(0)),
+    (BinaryOp::ShiftLeft, Int, 0, 32, RANGE),
+    (BinaryOp::ShiftLeft, Int, 1, -1, RANGE),
+    (BinaryOp::ShiftLeft, Int, -1, 0, RANGE),
+    (BinaryOp::ShiftLeft, Int, 3, 30, RANGE),
+    (BinaryOp::ShiftLeft, UnsignedInt, 1, 31, Ok(2147483648)),
+    (BinaryOp::ShiftLeft, UnsignedInt, 3, 31, Ok(2147483648)),
+    (BinaryOp::ShiftLeft, UnsignedInt, 1, 32, RANGE),
+    (BinaryOp::ShiftLeft, Long, 1, 62, Ok(4611686018427387904)),
+    (BinaryOp::ShiftLeft, Long, 1, 63, RANGE),
+    (BinaryOp::ShiftLeft, LongLong, 1, 64, RANGE),
+    (
+        BinaryOp::ShiftLeft,
+        UnsignedLong,
+        1,
+        63,
+        Ok(9223372036854775808),
+    ),
+    (
+        BinaryOp::ShiftLeft,
+        UnsignedLongLong,
+        18446744073709551615,
+        63,
+        Ok(9223372036854775808),
+    ),
+    (BinaryOp::ShiftLeft, UnsignedLong, 1, 64, RANGE),
+    (
+        BinaryOp::ShiftLeft,
+        UnsignedLong,
+        1,
+        170141183460469231731687303715884105727,
+        RANGE,
+    ),
+    (BinaryOp::ShiftRight, Int, 5, 1, Ok(2)),
+    (BinaryOp::ShiftRight, Int, -5, 1, Ok(-3)),
+    (BinaryOp::ShiftRight, Int, -1, 31, Ok(-1)),
+    (BinaryOp::ShiftRight, Int, -2147483648, 31, Ok(-1)),
+    (BinaryOp::ShiftRight, Int, 2147483647, 31, Ok(0)),
+    (BinaryOp::ShiftRight, Int, 1, 32, RANGE),
+    (BinaryOp::ShiftRight, Int, 1, -1, RANGE),
+    (BinaryOp::ShiftRight, UnsignedInt, 4294967295, 31, Ok(1)),
+    (BinaryOp::ShiftRight, Long, -9223372036854775808, 63, Ok(-1)),
+    (
+        BinaryOp::ShiftRight,
+        UnsignedLong,
+        18446744073709551615,
+        63,
+        Ok(1),
+    ),
+    (BinaryOp::ShiftRight, UnsignedLong, 1, 64, RANGE),
+    (
+        BinaryOp::ShiftRight,
+        LongLong,
+        1,
+        -170141183460469231731687303715884105728,
+        RANGE,
+    ),
+];
+
 #[test]
 fn shifts_at_each_end_of_their_range(rt: HostRuntime) {
-    let range = Err(FaultKind::ShiftRange);
-    let rows: [BinaryRow; 30] = [
-        (BinaryOp::ShiftLeft, Int, 1, 0, Ok(1)),
-        (BinaryOp::ShiftLeft, Int, 1, 30, Ok(1073741824)),
-        (BinaryOp::ShiftLeft, Int, 1, 31, range),
-        (BinaryOp::ShiftLeft, Int, 0, 31, Ok(0)),
-        (BinaryOp::ShiftLeft, Int, 0, 32, range),
-        (BinaryOp::ShiftLeft, Int, 1, -1, range),
-        (BinaryOp::ShiftLeft, Int, -1, 0, range),
-        (BinaryOp::ShiftLeft, Int, 3, 30, range),
-        (BinaryOp::ShiftLeft, UnsignedInt, 1, 31, Ok(2147483648)),
-        (BinaryOp::ShiftLeft, UnsignedInt, 3, 31, Ok(2147483648)),
-        (BinaryOp::ShiftLeft, UnsignedInt, 1, 32, range),
-        (BinaryOp::ShiftLeft, Long, 1, 62, Ok(4611686018427387904)),
-        (BinaryOp::ShiftLeft, Long, 1, 63, range),
-        (BinaryOp::ShiftLeft, LongLong, 1, 64, range),
-        (
-            BinaryOp::ShiftLeft,
-            UnsignedLong,
-            1,
-            63,
-            Ok(9223372036854775808),
-        ),
-        (
-            BinaryOp::ShiftLeft,
-            UnsignedLongLong,
-            18446744073709551615,
-            63,
-            Ok(9223372036854775808),
-        ),
-        (BinaryOp::ShiftLeft, UnsignedLong, 1, 64, range),
-        (
-            BinaryOp::ShiftLeft,
-            UnsignedLong,
-            1,
-            170141183460469231731687303715884105727,
-            range,
-        ),
-        (BinaryOp::ShiftRight, Int, 5, 1, Ok(2)),
-        (BinaryOp::ShiftRight, Int, -5, 1, Ok(-3)),
-        (BinaryOp::ShiftRight, Int, -1, 31, Ok(-1)),
-        (BinaryOp::ShiftRight, Int, -2147483648, 31, Ok(-1)),
-        (BinaryOp::ShiftRight, Int, 2147483647, 31, Ok(0)),
-        (BinaryOp::ShiftRight, Int, 1, 32, range),
-        (BinaryOp::ShiftRight, Int, 1, -1, range),
-        (BinaryOp::ShiftRight, UnsignedInt, 4294967295, 31, Ok(1)),
-        (BinaryOp::ShiftRight, Long, -9223372036854775808, 63, Ok(-1)),
-        (
-            BinaryOp::ShiftRight,
-            UnsignedLong,
-            18446744073709551615,
-            63,
-            Ok(1),
-        ),
-        (BinaryOp::ShiftRight, UnsignedLong, 1, 64, range),
-        (
-            BinaryOp::ShiftRight,
-            LongLong,
-            1,
-            -170141183460469231731687303715884105728,
-            range,
-        ),
-    ];
-    for row in rows {
+    for row in SHIFTS {
         check_binary(&rt, row);
     }
 }
+
+const COMPARISONS: [BinaryOp; 6] = [
+    BinaryOp::Less,
+    BinaryOp::Greater,
+    BinaryOp::LessEqual,
+    BinaryOp::GreaterEqual,
+    BinaryOp::Equal,
+    BinaryOp::NotEqual,
+];
 
 #[test]
 fn comparisons_give_one_or_zero(rt: HostRuntime) {
@@ -413,18 +433,15 @@ fn comparisons_give_one_or_zero(rt: HostRuntime) {
         (-1, 0, [1, 0, 1, 0, 0, 1]),
         (-3, -3, [0, 0, 1, 1, 1, 0]),
     ];
-    let operators = [
-        BinaryOp::Less,
-        BinaryOp::Greater,
-        BinaryOp::LessEqual,
-        BinaryOp::GreaterEqual,
-        BinaryOp::Equal,
-        BinaryOp::NotEqual,
-    ];
     for (left, right, wanted) in rows {
-        for i in 0..6 {
-            check_binary(&rt, (operators[i], Int, left, right, Ok(wanted[i])));
-        }
+        check_comparisons(&rt, left, right, wanted);
+    }
+}
+
+/// Compares the results of the six comparisons of two numbers.
+fn check_comparisons(rt: &impl Abort, left: i128, right: i128, wanted: [i128; 6]) {
+    for i in 0..6 {
+        check_binary(rt, (COMPARISONS[i], Int, left, right, Ok(wanted[i])));
     }
 }
 

@@ -67,157 +67,158 @@ fn check_row(rt: &impl Abort, alloc: Global, s: &mut Structs, row: Row) -> Mem<(
     Ok(())
 }
 
+const ROWS: [Row; 22] = [
+    (
+        &[Part::Of(Char), Part::Of(Int), Part::Of(Short)],
+        12,
+        4,
+        [Some(0), Some(4), Some(8), None],
+    ),
+    (&[Part::Of(Char)], 1, 1, [Some(0), None, None, None]),
+    (
+        &[Part::Of(Char), Part::Of(SignedChar), Part::Of(UnsignedChar)],
+        3,
+        1,
+        [Some(0), Some(1), Some(2), None],
+    ),
+    (
+        &[Part::Of(Char), Part::Of(Short)],
+        4,
+        2,
+        [Some(0), Some(2), None, None],
+    ),
+    (
+        &[Part::Of(Short), Part::Of(Char)],
+        4,
+        2,
+        [Some(0), Some(2), None, None],
+    ),
+    (
+        &[Part::Of(Int), Part::Of(Char)],
+        8,
+        4,
+        [Some(0), Some(4), None, None],
+    ),
+    (
+        &[Part::Of(Char), Part::Of(Long)],
+        16,
+        8,
+        [Some(0), Some(8), None, None],
+    ),
+    (
+        &[Part::Of(Long), Part::Of(Char)],
+        16,
+        8,
+        [Some(0), Some(8), None, None],
+    ),
+    (
+        &[Part::Of(Char), Part::Pointer, Part::Of(Char)],
+        24,
+        8,
+        [Some(0), Some(8), Some(16), None],
+    ),
+    (
+        &[Part::Of(Bool), Part::Of(Bool), Part::Of(Int)],
+        8,
+        4,
+        [Some(0), Some(1), Some(4), None],
+    ),
+    (
+        &[
+            Part::Of(Short),
+            Part::Of(Int),
+            Part::Of(Short),
+            Part::Of(Long),
+        ],
+        24,
+        8,
+        [Some(0), Some(4), Some(8), Some(16)],
+    ),
+    (
+        &[Part::Array(Char, 3), Part::Of(Int)],
+        8,
+        4,
+        [Some(0), Some(4), None, None],
+    ),
+    (
+        &[
+            Part::Array(Char, 5),
+            Part::Of(UnsignedShort),
+            Part::Of(Char),
+        ],
+        10,
+        2,
+        [Some(0), Some(6), Some(8), None],
+    ),
+    (
+        &[Part::Array(Int, 3), Part::Of(Char)],
+        16,
+        4,
+        [Some(0), Some(12), None, None],
+    ),
+    (
+        &[Part::Of(Char), Part::Struct(0), Part::Of(Char)],
+        20,
+        4,
+        [Some(0), Some(4), Some(16), None],
+    ),
+    (
+        &[Part::Struct(1), Part::Struct(3)],
+        6,
+        2,
+        [Some(0), Some(2), None, None],
+    ),
+    (
+        &[Part::Struct(6), Part::Of(Char)],
+        24,
+        8,
+        [Some(0), Some(16), None, None],
+    ),
+    (
+        &[Part::StructArray(12, 2), Part::Of(Char)],
+        22,
+        2,
+        [Some(0), Some(20), None, None],
+    ),
+    (
+        &[
+            Part::Of(UnsignedLongLong),
+            Part::Of(UnsignedChar),
+            Part::Of(UnsignedShort),
+            Part::Of(UnsignedInt),
+        ],
+        16,
+        8,
+        [Some(0), Some(8), Some(10), Some(12)],
+    ),
+    (
+        &[
+            Part::Of(LongLong),
+            Part::Array(UnsignedLong, 2),
+            Part::Of(SignedChar),
+        ],
+        32,
+        8,
+        [Some(0), Some(8), Some(24), None],
+    ),
+    (
+        &[Part::Array(Char, 1048576), Part::Of(Char)],
+        1048577,
+        1,
+        [Some(0), Some(1048576), None, None],
+    ),
+    (
+        &[Part::Array(Char, 1048575), Part::Of(Int), Part::Of(Char)],
+        1048577,
+        4,
+        [Some(0), Some(1048576), Some(1048577), None],
+    ),
+];
+
 #[test]
 fn structs_worked_out_by_hand(rt: HostRuntime) -> Result<(), Fail> {
     let mut s = Structs::new(rt.alloc());
-    let rows: [Row; 22] = [
-        (
-            &[Part::Of(Char), Part::Of(Int), Part::Of(Short)],
-            12,
-            4,
-            [Some(0), Some(4), Some(8), None],
-        ),
-        (&[Part::Of(Char)], 1, 1, [Some(0), None, None, None]),
-        (
-            &[Part::Of(Char), Part::Of(SignedChar), Part::Of(UnsignedChar)],
-            3,
-            1,
-            [Some(0), Some(1), Some(2), None],
-        ),
-        (
-            &[Part::Of(Char), Part::Of(Short)],
-            4,
-            2,
-            [Some(0), Some(2), None, None],
-        ),
-        (
-            &[Part::Of(Short), Part::Of(Char)],
-            4,
-            2,
-            [Some(0), Some(2), None, None],
-        ),
-        (
-            &[Part::Of(Int), Part::Of(Char)],
-            8,
-            4,
-            [Some(0), Some(4), None, None],
-        ),
-        (
-            &[Part::Of(Char), Part::Of(Long)],
-            16,
-            8,
-            [Some(0), Some(8), None, None],
-        ),
-        (
-            &[Part::Of(Long), Part::Of(Char)],
-            16,
-            8,
-            [Some(0), Some(8), None, None],
-        ),
-        (
-            &[Part::Of(Char), Part::Pointer, Part::Of(Char)],
-            24,
-            8,
-            [Some(0), Some(8), Some(16), None],
-        ),
-        (
-            &[Part::Of(Bool), Part::Of(Bool), Part::Of(Int)],
-            8,
-            4,
-            [Some(0), Some(1), Some(4), None],
-        ),
-        (
-            &[
-                Part::Of(Short),
-                Part::Of(Int),
-                Part::Of(Short),
-                Part::Of(Long),
-            ],
-            24,
-            8,
-            [Some(0), Some(4), Some(8), Some(16)],
-        ),
-        (
-            &[Part::Array(Char, 3), Part::Of(Int)],
-            8,
-            4,
-            [Some(0), Some(4), None, None],
-        ),
-        (
-            &[
-                Part::Array(Char, 5),
-                Part::Of(UnsignedShort),
-                Part::Of(Char),
-            ],
-            10,
-            2,
-            [Some(0), Some(6), Some(8), None],
-        ),
-        (
-            &[Part::Array(Int, 3), Part::Of(Char)],
-            16,
-            4,
-            [Some(0), Some(12), None, None],
-        ),
-        (
-            &[Part::Of(Char), Part::Struct(0), Part::Of(Char)],
-            20,
-            4,
-            [Some(0), Some(4), Some(16), None],
-        ),
-        (
-            &[Part::Struct(1), Part::Struct(3)],
-            6,
-            2,
-            [Some(0), Some(2), None, None],
-        ),
-        (
-            &[Part::Struct(6), Part::Of(Char)],
-            24,
-            8,
-            [Some(0), Some(16), None, None],
-        ),
-        (
-            &[Part::StructArray(12, 2), Part::Of(Char)],
-            22,
-            2,
-            [Some(0), Some(20), None, None],
-        ),
-        (
-            &[
-                Part::Of(UnsignedLongLong),
-                Part::Of(UnsignedChar),
-                Part::Of(UnsignedShort),
-                Part::Of(UnsignedInt),
-            ],
-            16,
-            8,
-            [Some(0), Some(8), Some(10), Some(12)],
-        ),
-        (
-            &[
-                Part::Of(LongLong),
-                Part::Array(UnsignedLong, 2),
-                Part::Of(SignedChar),
-            ],
-            32,
-            8,
-            [Some(0), Some(8), Some(24), None],
-        ),
-        (
-            &[Part::Array(Char, 1048576), Part::Of(Char)],
-            1048577,
-            1,
-            [Some(0), Some(1048576), None, None],
-        ),
-        (
-            &[Part::Array(Char, 1048575), Part::Of(Int), Part::Of(Char)],
-            1048577,
-            4,
-            [Some(0), Some(1048576), Some(1048577), None],
-        ),
-    ];
-    for row in rows {
+    for row in ROWS {
         check_row(&rt, rt.alloc(), &mut s, row)?;
     }
     Ok(())
