@@ -1,0 +1,134 @@
+-- The layout of types. A size or an offset past 1 MiB is given as one more than that, at each step: no later step makes a
+-- larger number smaller, so that is the same as at the end.
+use Rattle.std.specs.Prelude.{ℕ, ◌+◌, ◌*◌, ◌/◌, ◌≡◌, ◌<◌, ◌≤◌, if◌then◌else◌, Bool, true, false, List, [], ◌∷◌, map, min, max, fold, find, bytes_eq, Option, Some, None, option_map, option_and_then, slice_get, slice_set}
+use Rattle.std.specs.Int.{next_multiple_of}
+use Rattle.ct_ctype.specs.declared.kinds.IntKind.{IntKind}
+use Rattle.ct_ctype.specs.declared.types.CType.{CType, fold-CType}
+use Rattle.ct_ctype.specs.declared.types.CType.TheOpen.{CType-F}
+use Rattle.ct_ctype.specs.declared.types.Member.{Member}
+use Rattle.ct_ctype.specs.declared.types.Extent.{Extent}
+use Rattle.ct_ctype.specs.declared.types.StructLayout.{StructLayout}
+use Rattle.ct_ctype.specs.Ranges.{width}
+
+-- the structs by their numbers, of which some are complete
+abbrev pub Table : Type 0
+Table = List (Option StructLayout)
+
+-- at most one more than 1 MiB
+abbrev pub capped : ℕ → ℕ
+capped n = min n 1048577
+
+-- a scalar aligns at its size (6.2.8)
+abbrev pub scalar : ℕ → Extent
+scalar bytes = record { size = bytes; alignment = bytes }
+
+-- the bytes of 8 bits that a kind's width takes
+abbrev pub bytes_of : IntKind → ℕ
+bytes_of k = (width k + 7) / 8
+
+-- an array: its elements follow one another (6.2.5p20)
+abbrev pub repeated : ℕ → Extent → Extent
+repeated n element = record { size = capped (n * element.size); alignment = element.alignment }
+
+-- the layout of a struct that is complete
+abbrev pub layout_of : Table → ℕ → Option StructLayout
+layout_of s which = option_and_then (λ (l : Option StructLayout). l) (slice_get s which)
+
+-- one level of a type, with the extents of its parts
+abbrev pub extent_step : Table → CType-F (Option Extent) (Unit {0}) → Option Extent
+extent_step s CType-F.Void = None
+extent_step s (CType-F.Int k) = Some (scalar (bytes_of k))
+extent_step s (CType-F.Pointer pointee constant) = Some (scalar 8)
+extent_step s (CType-F.Array element None) = None
+extent_step s (CType-F.Array element (Some n)) = option_map (repeated n) element
+extent_step s (CType-F.Struct which) = option_map (λ l. l.extent) (layout_of s which)
+extent_step s (CType-F.Function f) = None
+
+-- the extent of a type; a type that is incomplete, `void` and a function have none
+unfoldable pub extent_of : Table → CType → Option Extent
+extent_of s = fold-CType (Option Extent) (Unit {0}) (extent_step s) (λ f. tt)
+
+-- the extents of the members, where each has one
+abbrev pub extents_of : Table → List Member → Option (List Extent)
+extents_of s [] = Some []
+extents_of s (m ∷ ms) = option_and_then (λ e. option_map (λ es. e ∷ es) (extents_of s ms)) (extent_of s m.kind)
+
+-- the members in order, each at the next multiple of its alignment, the first from this place on (6.7.2.1p14 and 6.7.2.1p15)
+abbrev pub placed : ℕ → List Member → List Extent → List Member
+placed from [] es = []
+placed from (m ∷ ms) [] = []
+placed from (m ∷ ms) (e ∷ es) =
+    let at = next_multiple_of from e.alignment in
+    record m { offset = capped at } ∷ placed (at + e.size) ms es
+
+-- where the last of them ends
+abbrev pub end_of : ℕ → List Extent → ℕ
+end_of from [] = from
+end_of from (e ∷ es) = end_of (next_multiple_of from e.alignment + e.size) es
+
+-- the largest alignment
+abbrev pub largest : ℕ → List Extent → ℕ
+largest so_far es = fold max so_far (map (λ e. e.alignment) es)
+
+-- the size is rounded up to the largest alignment (6.7.2.1p17)
+abbrev pub struct_layout : List Member → List Extent → StructLayout
+struct_layout ms es =
+    let alignment = largest 1 es in
+    record { members = placed 0 ms es; extent = record { size = capped (next_multiple_of (end_of 0 es) alignment); alignment = alignment } }
+
+-- the layout of a struct with these members, where each has a size
+abbrev pub laid_out : Table → List Member → Option StructLayout
+laid_out s ms = option_map (struct_layout ms) (extents_of s ms)
+
+-- a struct stands here, and has no members yet
+abbrev pub is_open : Option (Option StructLayout) → Bool
+is_open (Some None) = true
+is_open (Some (Some layout)) = false
+is_open None = false
+
+-- the table with these members as those of the struct, where it is open and each of them has a size
+abbrev pub completed : Table → ℕ → List Member → Option Table
+completed s which ms =
+    if is_open (slice_get s which) then option_map (λ layout. slice_set s which (Some layout)) (laid_out s ms) else None
+
+-- what each extent keeps
+pub record IsExtent (e : Extent) : Type 0 where
+  pub size : e.size ≤ 1048577
+  pub some : 0 < e.alignment
+  pub alignment : e.alignment ≤ 8
+
+-- what each complete struct keeps: its layout is that which its members have over the whole table
+pub record IsKept (s : Table) (layout : StructLayout) : Type 0 where
+  pub laid : laid_out s layout.members ≡ Some layout
+  pub bounded : IsExtent layout.extent
+
+abbrev pub AllKept : Table → Type 0
+AllKept s = (which : ℕ) (layout : StructLayout) → layout_of s which ≡ Some layout → IsKept s layout
+
+-- the struct that an object of the type holds, alone or as an element of an array
+abbrev pub held_step : CType-F (Option ℕ) (Unit {0}) → Option ℕ
+held_step CType-F.Void = None
+held_step (CType-F.Int k) = None
+held_step (CType-F.Pointer pointee constant) = None
+held_step (CType-F.Array element count) = element
+held_step (CType-F.Struct which) = Some which
+held_step (CType-F.Function f) = None
+
+unfoldable pub held_struct : CType → Option ℕ
+held_struct = fold-CType (Option ℕ) (Unit {0}) held_step (λ f. tt)
+
+-- no struct holds itself, also through others: each is higher than those that its members hold
+pub record IsAcyclic (s : Table) : Type 0 where
+  pub height : ℕ → ℕ
+  pub falls : (which : ℕ) (layout : StructLayout) (k : ℕ) (m : Member) (inner : ℕ) → layout_of s which ≡ Some layout → slice_get layout.members k ≡ Some m → held_struct m.kind ≡ Some inner → height inner < height which
+
+pub record IsSound (s : Table) : Type 0 where
+  pub kept : AllKept s
+  pub acyclic : IsAcyclic s
+
+-- the offset of the member of this name; of the first, if there are several
+abbrev pub member_offset : List ℕ → List Member → Option ℕ
+member_offset name ms = option_map (λ (m : Member). m.offset) (find (λ (m : Member). bytes_eq m.name name) ms)
+
+abbrev pub offset_in : Table → ℕ → List ℕ → Option ℕ
+offset_in s which name = option_and_then (λ (layout : StructLayout). member_offset name layout.members) (layout_of s which)

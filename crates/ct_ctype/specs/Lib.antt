@@ -1,0 +1,4 @@
+pub mod Ranges
+pub mod Conversion
+pub mod Operation
+pub mod Layout
