@@ -4,7 +4,9 @@ mod Listing
 mod Logs
 mod Members
 mod Misses
+mod OneOutcome
 mod OneWord
+mod Ordered
 mod Projects
 mod Reading
 mod Sequence

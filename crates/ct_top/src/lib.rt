@@ -4,6 +4,7 @@
 mod files;
 mod form;
 mod items;
+mod laws;
 mod numbers;
 mod project;
 mod refusing;
@@ -15,4 +16,5 @@ mod words;
 mod writing;
 
 pub use ct_base::Status;
+pub use laws::one_outcome;
 pub use top::run;

@@ -1,0 +1,5 @@
+use Rattle.ct_top.proofs.OneOutcome.{HasOutcome-unique}
+use Rattle.ct_top.proofs.laws.one_outcome.Goals as goal
+
+pub returns : goal.returns
+returns c = HasOutcome-unique c.one_tokenization.ensures
