@@ -75,9 +75,9 @@ entry_file path e h folder =
     let parts = entry_cases (starts_with nat_eq path (codes "test/")) (drop 5 path) e h in
     let plain : list_any is_slash (drop 5 path) ≡ false = parts.2 ∙ folder in
     let name : e.name ≡ drop 5 path = sym parts.1 ∙ whole_name (drop 5 path) plain in
-    let front : codes "test/" ≡ take 5 path = (bytes_eq-Decides (codes "test/") (take 5 path)).0 parts.0 in
-    ( sym (take-append-drop 5 path) ∙ ap (λ f. f ++ drop 5 path) (sym front) ∙ ap in_test_folder (sym name)
-    , ap (list_any is_slash) name ∙ plain
+    let front : codes "test/" ≡ take 5 path = (bytes_eq-Decides (codes "test/") (take 5 path)).0 parts.0 in (
+      sym (take-append-drop 5 path) ∙ ap (λ f. f ++ drop 5 path) (sym front) ∙ ap in_test_folder (sym name),
+      ap (list_any is_slash) name ∙ plain,
     )
 
 split_test : (a b : Bool) → (not a && b) ≡ true → (a ≡ false) × (b ≡ true)
@@ -108,11 +108,11 @@ test_is_listed files entries path listing (name, is, plain, named, there) =
 listed_once : (files : Files) (entries : List Entry) → IsListing files test_folder entries → EachOnce (test_paths_of entries)
 listed_once files entries listing =
     once_map (λ e. in_test_folder e.name) (filter is_test_entry entries)
-      (λ x y m n same.
-        let p = filter_contains is_test_entry entries x m in
-        let q = filter_contains is_test_entry entries y n in
-        same_entry x y (ap (drop 5) same) ((split_test x.folder (is_test_file_name x.name) p.1).0 ∙ sym (split_test y.folder (is_test_file_name y.name) q.1).0))
-      (once_filter is_test_entry entries listing.once)
+    (λ x y m n same.
+    let p = filter_contains is_test_entry entries x m in
+    let q = filter_contains is_test_entry entries y n in
+    same_entry x y (ap (drop 5) same) ((split_test x.folder (is_test_file_name x.name) p.1).0 ∙ sym (split_test y.folder (is_test_file_name y.name) q.1).0))
+    (once_filter is_test_entry entries listing.once)
 
 text_at : (xs : List (String Global)) (k : ℕ) (d : List ℕ) (e : String Global) → k < length xs → get_or (texts_of xs) k d ≡ string_bytes (get_or xs k e)
 text_at xs k d e within = get_or_apart (texts_of xs) k d (string_bytes e) (rw (length-map xs string_bytes) within) ∙ get_or-map string_bytes xs k e
@@ -125,20 +125,20 @@ sorted_texts (x ∷ xs) h k d low within =
     let here : get_or (texts_of all) k d ≡ string_bytes (get_or all k x) = text_at all k d x (omega arith) in
     let next : get_or (texts_of all) (k + 1) d ≡ string_bytes (get_or all (k + 1) x) = text_at all (k + 1) d x inside in
     ap (λ t. is_lt (slice_cmp nat_cmp t (get_or (texts_of all) k d))) next
-      ∙ ap (λ t. is_lt (slice_cmp nat_cmp (string_bytes (get_or all (k + 1) x)) t)) here ∙ h k x low inside
+    ∙ ap (λ t. is_lt (slice_cmp nat_cmp (string_bytes (get_or all (k + 1) x)) t)) here ∙ h k x low inside
 
 -- the sorted paths are the test files
 are_tests : (files : Files) (entries : List Entry) (paths : List (String Global)) → IsListing files test_folder entries
     → IsSorted string_cmp paths → IsPermutation (test_paths_of entries) (texts_of paths) → AreTestFiles files (texts_of paths)
 are_tests files entries paths listing sorted moved = record {
-      each = λ path.
-        ( (λ m. listed_is_test files entries path listing
-            (Contains-permutation (texts_of paths) (test_paths_of entries) path (IsPermutation-sym (test_paths_of entries) (texts_of paths) moved) m))
-        , (λ t. Contains-permutation (test_paths_of entries) (texts_of paths) path moved (test_is_listed files entries path listing t))
-        );
-      once = once_permutation (test_paths_of entries) (texts_of paths) moved (listed_once files entries listing);
-      sorted = sorted_texts paths sorted;
-    }
+  each = λ path. (
+    (λ m. listed_is_test files entries path listing
+        (Contains-permutation (texts_of paths) (test_paths_of entries) path (IsPermutation-sym (test_paths_of entries) (texts_of paths) moved) m)),
+    (λ t. Contains-permutation (test_paths_of entries) (texts_of paths) path moved (test_is_listed files entries path listing t)),
+  );
+  once = once_permutation (test_paths_of entries) (texts_of paths) moved (listed_once files entries listing);
+  sorted = sorted_texts paths sorted;
+}
 
 all_there : (files : Files) (paths : List (String Global)) → AreTestFiles files (texts_of paths) → AreThere files paths
 all_there files paths tests k d within =
@@ -151,7 +151,7 @@ listed files There old new none (added, more, there, listing) left =
     subst (λ es. IsListing files test_folder es) (sym (more ∙ ap (λ front. front ++ added) none)) listing
 listed files Absent old new none absent left =
     subst (λ es. IsListing files test_folder es) (sym (left ∙ none))
-      (record { each = λ e. ((λ m. absurd (contains_none e m)), (λ h. absurd (absent (e, h)))); once = tt })
+    (record { each = λ e. ((λ m. absurd (contains_none e m)), (λ h. absurd (absent (e, h)))); once = tt })
 listed files TooLarge old new none h left = absurd h
 
 -- the test files are known, so what they mean is what the project means
@@ -160,9 +160,9 @@ pub goes_on_listed : (files : Files) (entries : List Entry) (paths : List (Strin
     → AreThere files paths × ((outcome : Outcome) → ReadFilesMean (with_texts files (texts_of paths)) outcome → TestsMean files outcome)
 goes_on_listed files entries paths listing few sorted moved =
     let tests = are_tests files entries paths listing sorted moved in
-    let test : nat_lt most_entries (length entries) ≡ false = grind (arith, nat_tests) in
-    ( all_there files paths tests
-    , (λ outcome means. (entries, listing, subst (λ b. AfterListing b files outcome) (sym test) (texts_of paths, tests, means)))
+    let test : nat_lt most_entries (length entries) ≡ false = grind (arith, nat_tests) in (
+      all_there files paths tests,
+      (λ outcome means. (entries, listing, subst (λ b. AfterListing b files outcome) (sym test) (texts_of paths, tests, means))),
     )
 
 -- too many entries refuse the project

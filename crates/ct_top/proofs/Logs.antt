@@ -26,7 +26,7 @@ behind-with_log logs log (Err refusal) = refl
 -- what follows an index begins with the element there
 from_here : (files : List TestFile) (i : ℕ) (file : TestFile) → i < length files → file ≡ get_or files i file → drop i files ≡ file ∷ drop (i + 1) files
 from_here files i file within is = rw add-one (go files i within is)
-    where
+  where
     go : (files : List TestFile) (i : ℕ) → i < length files → file ≡ get_or files i file → drop i files ≡ file ∷ drop (suc i) files
     go [] i within is = absurd (omega arith)
     go (f ∷ fs) zero within is = ap (λ g. g ∷ fs) (sym is)
@@ -39,7 +39,7 @@ pub ran_one : (files : List TestFile) (i : ℕ) (file : TestFile) (logs : List R
 ran_one files i file logs log within is means so_far o rest =
     let here : FilesMean (file ∷ drop (i + 1) files) (with_log log o) = (Ok log, means, (o, rest, refl)) in
     subst (FilesMean files) (behind-with_log logs log o)
-      (so_far (with_log log o) (subst (λ fs. FilesMean fs (with_log log o)) (sym (from_here files i file within is)) here))
+    (so_far (with_log log o) (subst (λ fs. FilesMean fs (with_log log o)) (sym (from_here files i file within is)) here))
 
 -- the next file is refused
 pub refused_here : (files : List TestFile) (i : ℕ) (file : TestFile) (logs : List RunLog) (refusal : Refusal) → i < length files → file ≡ get_or files i file

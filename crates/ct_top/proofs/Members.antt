@@ -26,16 +26,16 @@ contains_none x (k, within, is) = omega arith
 pub contains_map : {A B : Type 0} (f : A → B) (xs : List A) (x : A) → Contains xs x → Contains (map f xs) (f x)
 contains_map f [] x h = absurd (contains_none x h)
 contains_map f (y ∷ ys) x h = elim (contains_cases y ys x h) [
-      | inl e ↦ subst (λ z. Contains (map f (y ∷ ys)) (f z)) e (contains_first (f y) (map f ys))
-      | inr m ↦ contains_more (f y) (map f ys) (f x) (contains_map f ys x m)
-    ]
+  | inl e ↦ subst (λ z. Contains (map f (y ∷ ys)) (f z)) e (contains_first (f y) (map f ys))
+  | inr m ↦ contains_more (f y) (map f ys) (f x) (contains_map f ys x m)
+]
 
 pub map_contains : {A B : Type 0} (f : A → B) (xs : List A) (z : B) → Contains (map f xs) z → (x : A) × Contains xs x × (f x ≡ z)
 map_contains f [] z h = absurd (contains_none z h)
 map_contains f (y ∷ ys) z h = elim (contains_cases (f y) (map f ys) z h) [
-      | inl e ↦ (y, contains_first y ys, e)
-      | inr m ↦ let r = map_contains f ys z m in (r.0, contains_more y ys r.0 r.1, r.2)
-    ]
+  | inl e ↦ (y, contains_first y ys, e)
+  | inr m ↦ let r = map_contains f ys z m in (r.0, contains_more y ys r.0 r.1, r.2)
+]
 
 filter_cons : {A : Type 0} (p : A → Bool) (y : A) (ys : List A) (b : Bool) → p y ≡ b → filter p (y ∷ ys) ≡ cond b (y ∷ filter p ys) (filter p ys)
 filter_cons p y ys b e = rw e refl
@@ -47,18 +47,18 @@ kept p y ys x false e m = rw (filter_cons p y ys false e) m
 pub contains_filter : {A : Type 0} (p : A → Bool) (xs : List A) (x : A) → Contains xs x → p x ≡ true → Contains (filter p xs) x
 contains_filter p [] x h passes = absurd (contains_none x h)
 contains_filter p (y ∷ ys) x h passes = elim (contains_cases y ys x h) [
-      | inl e ↦ rw (filter_cons p y ys true (ap p e ∙ passes)) (subst (λ z. Contains (y ∷ filter p ys) z) e (contains_first y (filter p ys)))
-      | inr m ↦ kept p y ys x (p y) refl (contains_filter p ys x m passes)
-    ]
+  | inl e ↦ rw (filter_cons p y ys true (ap p e ∙ passes)) (subst (λ z. Contains (y ∷ filter p ys) z) e (contains_first y (filter p ys)))
+  | inr m ↦ kept p y ys x (p y) refl (contains_filter p ys x m passes)
+]
 
 in_filter : {A : Type 0} (p : A → Bool) (y : A) (ys : List A) (x : A) (b : Bool) → p y ≡ b
     → (Contains (filter p ys) x → Contains ys x × (p x ≡ true)) → Contains (filter p (y ∷ ys)) x → Contains (y ∷ ys) x × (p x ≡ true)
 in_filter p y ys x false e below h =
     let r = below (subst (λ zs. Contains zs x) (filter_cons p y ys false e) h) in (contains_more y ys x r.0, r.1)
 in_filter p y ys x true e below h = elim (contains_cases y (filter p ys) x (subst (λ zs. Contains zs x) (filter_cons p y ys true e) h)) [
-      | inl same ↦ (subst (λ z. Contains (y ∷ ys) z) same (contains_first y ys), sym (ap p same) ∙ e)
-      | inr m ↦ let r = below m in (contains_more y ys x r.0, r.1)
-    ]
+  | inl same ↦ (subst (λ z. Contains (y ∷ ys) z) same (contains_first y ys), sym (ap p same) ∙ e)
+  | inr m ↦ let r = below m in (contains_more y ys x r.0, r.1)
+]
 
 pub filter_contains : {A : Type 0} (p : A → Bool) (xs : List A) (x : A) → Contains (filter p xs) x → Contains xs x × (p x ≡ true)
 filter_contains p [] x h = absurd (contains_none x h)
@@ -75,11 +75,11 @@ once_filter p (y ∷ ys) h = once_kept p y ys (p y) refl h.0 (once_filter p ys h
 -- a function that tells the members apart keeps each once
 pub once_map : {A B : Type 0} (f : A → B) (xs : List A) → ((x y : A) → Contains xs x → Contains xs y → f x ≡ f y → x ≡ y) → EachOnce xs → EachOnce (map f xs)
 once_map f [] apart h = tt
-once_map f (y ∷ ys) apart h =
-    ( (λ m. let r = map_contains f ys (f y) m in
-        h.0 (subst (λ z. Contains ys z) (apart r.0 y (contains_more y ys r.0 r.1) (contains_first y ys) r.2) r.1))
-    , once_map f ys (λ a b m n. apart a b (contains_more y ys a m) (contains_more y ys b n)) h.1
-    )
+once_map f (y ∷ ys) apart h = (
+  (λ m. let r = map_contains f ys (f y) m in
+      h.0 (subst (λ z. Contains ys z) (apart r.0 y (contains_more y ys r.0 r.1) (contains_first y ys) r.2) r.1)),
+  once_map f ys (λ a b m n. apart a b (contains_more y ys a m) (contains_more y ys b n)) h.1,
+)
 
 one : List ℕ → List ℕ → ℕ
 one x y = cond (bytes_eq x y) 1 0
@@ -106,9 +106,9 @@ none_counted x (y ∷ ys) h =
 some_counted : (x : List ℕ) (xs : List (List ℕ)) → Contains xs x → 1 ≤ sum_by (one x) xs
 some_counted x [] h = absurd (contains_none x h)
 some_counted x (y ∷ ys) h = elim (contains_cases y ys x h) [
-      | inl e ↦ let first : one x y ≡ 1 = one_same x y (sym e) in omega (arith, counted x y ys)
-      | inr m ↦ let others : 1 ≤ sum_by (one x) ys = some_counted x ys m in omega (arith, counted x y ys)
-    ]
+  | inl e ↦ let first : one x y ≡ 1 = one_same x y (sym e) in omega (arith, counted x y ys)
+  | inr m ↦ let others : 1 ≤ sum_by (one x) ys = some_counted x ys m in omega (arith, counted x y ys)
+]
 
 one_more : (x y : List ℕ) (ys : List (List ℕ)) (b : Bool) → bytes_eq x y ≡ b → (Contains ys y → ⊥) → sum_by (one x) ys ≤ 1 → sum_by (one x) (y ∷ ys) ≤ 1
 one_more x y ys true e new below =
@@ -126,16 +126,16 @@ counted_once x (y ∷ ys) h = one_more x y ys (bytes_eq x y) refl h.0 (counted_o
 
 once_counted : (xs : List (List ℕ)) → ((x : List ℕ) → sum_by (one x) xs ≤ 1) → EachOnce xs
 once_counted [] h = tt
-once_counted (y ∷ ys) h =
-    ( (λ m. let others : 1 ≤ sum_by (one y) ys = some_counted y ys m in
-        let first : one y y ≡ 1 = one_same y y refl in
-        let all : sum_by (one y) (y ∷ ys) ≤ 1 = h y in
-        omega (arith, counted y y ys))
-    , once_counted ys (λ x. let all : sum_by (one x) (y ∷ ys) ≤ 1 = h x in omega (arith, counted x y ys))
-    )
+once_counted (y ∷ ys) h = (
+  (λ m. let others : 1 ≤ sum_by (one y) ys = some_counted y ys m in
+      let first : one y y ≡ 1 = one_same y y refl in
+      let all : sum_by (one y) (y ∷ ys) ≤ 1 = h y in
+      omega (arith, counted y y ys)),
+  once_counted ys (λ x. let all : sum_by (one x) (y ∷ ys) ≤ 1 = h x in omega (arith, counted x y ys)),
+)
 
 -- in another order too
 pub once_permutation : (xs ys : List (List ℕ)) → IsPermutation xs ys → EachOnce xs → EachOnce ys
 once_permutation xs ys moved once =
     once_counted ys (λ x. let same : sum_by (one x) ys ≡ sum_by (one x) xs = sum_by-IsPermutation (one x) xs ys moved in
-      let all : sum_by (one x) xs ≤ 1 = counted_once x xs once in omega arith)
+    let all : sum_by (one x) xs ≤ 1 = counted_once x xs once in omega arith)

@@ -68,11 +68,11 @@ too_long_at files paths i path text read within is found long same small =
     let passes : test file ≡ true = ap (λ o. is_too_long (unwrap_or o [])) found ∙ is_long text long in
     let after : List TestFile = with_texts files (texts_of (drop (suc i) paths)) in
     let whole : with_texts files (texts_of paths) ≡ read ++ file ∷ after =
-      ap (λ ps. with_texts files (texts_of ps)) (split_at paths i path within is)
-        ∙ with_texts-append files (take i paths) (path ∷ drop (suc i) paths) ∙ ap (λ r. r ++ file ∷ after) (sym same) in
+    ap (λ ps. with_texts files (texts_of ps)) (split_at paths i path within is)
+    ∙ with_texts-append files (take i paths) (path ∷ drop (suc i) paths) ∙ ap (λ r. r ++ file ∷ after) (sym same) in
     let first : find test (read ++ file ∷ after) ≡ Some file = find-behind test read after file (λ k d lt. is_short _ (small k d lt)) passes in
     subst (λ fs. ReadFilesMean fs (Err (too_long (string_bytes path)))) (sym whole)
-      (subst (λ o. AfterReading o (read ++ file ∷ after) (Err (too_long (string_bytes path)))) (sym first) refl)
+    (subst (λ o. AfterReading o (read ++ file ∷ after) (Err (too_long (string_bytes path)))) (sym first) refl)
 
 -- what a read that stopped the run says of the project
 pub stopped : (files : Files) (paths : List (String Global)) (i : ℕ) (path : String Global) (name : List ℕ) (read now : List TestFile) (stop : Stop)
@@ -87,4 +87,4 @@ stopped files paths i path name read now (Refused refusal) within is called ther
     let found = some_of (get files (string_bytes path)) here in
     let answer = told found.0 (ap (get files) called ∙ found.1) in
     subst (λ r. ReadFilesMean (with_texts files (texts_of paths)) (Err r)) (sym (answer.0 ∙ ap too_long called))
-      (too_long_at files paths i path found.0 read within is found.1 answer.1 same small)
+    (too_long_at files paths i path found.0 read within is found.1 answer.1 same small)

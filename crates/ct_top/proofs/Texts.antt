@@ -25,9 +25,9 @@ block_more logs i log old middle new within is so_far first second =
     let f : RunLog → List ℕ = λ l. lines_of l ++ footer_of l in
     let more : take (i + 1) logs ≡ take i logs ++ log ∷ [] = take_more logs i log within ∙ ap (λ l. take i logs ++ l ∷ []) (sym is) in
     let right : flat_map f (take (i + 1) logs) ≡ flat_map f (take i logs) ++ (lines_of log ++ footer_of log) =
-      ap (flat_map f) more ∙ flat_map-append f (take i logs) (log ∷ []) ∙ ap (λ t. flat_map f (take i logs) ++ t) (append-nil (lines_of log ++ footer_of log)) in
+    ap (flat_map f) more ∙ flat_map-append f (take i logs) (log ∷ []) ∙ ap (λ t. flat_map f (take i logs) ++ t) (append-nil (lines_of log ++ footer_of log)) in
     second ∙ ap (λ m. m ++ footer_of log) first ∙ append_assoc old (lines_of log) (footer_of log)
-      ∙ ap (λ o. o ++ (lines_of log ++ footer_of log)) so_far ∙ sym right
+    ∙ ap (λ o. o ++ (lines_of log ++ footer_of log)) so_far ∙ sym right
 
 -- the whole report
 pub report_whole : (logs : List RunLog) (i : ℕ) (old new : List ℕ) → i ≡ length logs → old ≡ flat_map (λ l. lines_of l ++ footer_of l) (take i logs)
@@ -47,11 +47,11 @@ token_refused path tokens rest after token tests refusal (items, reads, same) ne
 pub tokens_read : (path : List ℕ) (tokens rest : List Token) (tests : List TestFunction) (lines : List TestLine) (log : RunLog)
     → (items : List Item) × Reads tokens items rest × (tests ≡ tests_of items) → first_word rest ≡ None
     → lines ≡ map line_of tests → log ≡ record { file = path; tests = lines } → TokensMean path tokens (Ok log)
-tokens_read path tokens rest tests lines log (items, reads, same) next run made =
-    ( Ok tests
-    , (items, rest, reads, next, same)
-    , ap Ok (made ∙ ap (λ ts. record { file = path; tests = ts }) run)
-    )
+tokens_read path tokens rest tests lines log (items, reads, same) next run made = (
+  Ok tests,
+  (items, rest, reads, next, same),
+  ap Ok (made ∙ ap (λ ts. record { file = path; tests = ts }) run),
+)
 
 -- a log of its parts
 pub made : (file : List ℕ) (tests : List TestLine) (path : List ℕ) (lines : List TestLine) → file ≡ path → tests ≡ lines

@@ -48,13 +48,7 @@ fn read_file<T: Tree>(
             Ok(())
         }
         Found::Absent => Ok(()),
-        Found::TooLarge => Err(Stop::Refused(refuse(
-            alloc,
-            LIMIT,
-            path,
-            0,
-            b"Limit FileBytes",
-        )?)),
+        Found::TooLarge => Err(Stop::Refused(refuse(alloc, LIMIT, path, 0, b"Limit FileBytes")?)),
     }
 }
 

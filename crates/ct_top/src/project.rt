@@ -34,9 +34,27 @@ pub fn check_project_file<T: Tree>(alloc: Global, tree: &mut T) -> Result<(), St
     let mut text = Vec::new(alloc);
     match tree.read(alloc, PROJECT_FILE, FILE_BYTES, &mut text)? {
         Found::There if text.is_empty() => Ok(()),
-        Found::There => Err(Stop::Refused(refuse(alloc, SETTINGS, PROJECT_FILE, 1, b"Settings Yaml")?)),
-        Found::Absent => Err(Stop::Refused(refuse(alloc, NO_PROJECT, PROJECT_FILE, 0, b"NoProject")?)),
-        Found::TooLarge => Err(Stop::Refused(refuse(alloc, LIMIT, PROJECT_FILE, 0, b"Limit FileBytes")?)),
+        Found::There => Err(Stop::Refused(refuse(
+            alloc,
+            SETTINGS,
+            PROJECT_FILE,
+            1,
+            b"Settings Yaml",
+        )?)),
+        Found::Absent => Err(Stop::Refused(refuse(
+            alloc,
+            NO_PROJECT,
+            PROJECT_FILE,
+            0,
+            b"NoProject",
+        )?)),
+        Found::TooLarge => Err(Stop::Refused(refuse(
+            alloc,
+            LIMIT,
+            PROJECT_FILE,
+            0,
+            b"Limit FileBytes",
+        )?)),
     }
 }
 

@@ -111,7 +111,10 @@ fn projects_give_their_report_or_the_line_of_their_refusal(rt: HostRuntime) -> R
             &[
                 ("project.yml", b""),
                 ("test/test_a.c", WORKED),
-                ("test/test_B.c", b"#include \"unity.h\"\nvoid test_three(void)\n{\n}\n"),
+                (
+                    "test/test_B.c",
+                    b"#include \"unity.h\"\nvoid test_three(void)\n{\n}\n",
+                ),
             ],
             Status::Passed,
             b"test/test_B.c:2:test_three:PASS\n\
@@ -188,7 +191,11 @@ fn test_files_give_their_lines_or_their_first_word_that_is_left(
 ) -> Result<(), Fail> {
     let rows: [(&[u8], Status, &[u8]); 20] = [
         (b"", Status::Passed, NO_TESTS_IN_ONE_FILE),
-        (b"#include \"unity.h\"", Status::Passed, NO_TESTS_IN_ONE_FILE),
+        (
+            b"#include \"unity.h\"",
+            Status::Passed,
+            NO_TESTS_IN_ONE_FILE,
+        ),
         (
             b"#include \"unity.h\"\nvoid test_two(void)\n{\nTEST_ASSERT_EQUAL_INT(2, 2);\n}",
             Status::Passed,
@@ -301,7 +308,10 @@ fn each_front_of_a_test_file_passes_or_is_refused_by_one_line(rt: HostRuntime) -
         let answer = run_all(alloc, &mut tree, &mut sink)?;
         if answer != Status::Passed {
             assert_eq!(rt; answer, Status::Refused, "length {length}");
-            assert!(rt; sink.taken().starts_with(b"ERROR: test/test_a.c:"), "length {length}");
+            assert!(rt;
+                sink.taken().starts_with(b"ERROR: test/test_a.c:"),
+                "length {length}"
+            );
             let lines = sink.taken().iter().filter(|byte| **byte == b'\n').count();
             assert_eq!(rt; lines, 1, "length {length}");
             assert!(rt; sink.taken().ends_with(b"\n"), "length {length}");

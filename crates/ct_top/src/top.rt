@@ -28,12 +28,7 @@ const USAGE: &[u8] = b"usage: ceedling [--project PATH] [--budget N] COMMAND\n";
 /// Runs the command that the words after the program's name are. The one command that is built is
 /// `test:all`: it reads the project, runs its tests and writes the report, or the line of the project's
 /// first refusal. Nothing is written before all is known.
-pub fn run<T: Tree, S: Sink>(
-    alloc: Global,
-    words: &[String],
-    tree: &mut T,
-    out: &mut S,
-) -> Status
+pub fn run<T: Tree, S: Sink>(alloc: Global, words: &[String], tree: &mut T, out: &mut S) -> Status
     // For every project: the sink took exactly the report, or the line of the first refusal, and the status is
     // exactly that of the project's meaning, where the tree tells its files, the sink tells what it took, no
     // count of faults rose and memory was there.
@@ -44,13 +39,13 @@ pub fn run<T: Tree, S: Sink>(
         → (Rose (S.faults out.old) (S.faults out.new) → ⊥)
         → (result ≡ OutOfMemory → ⊥)
         → (outcome : Outcome) × HasOutcome files outcome
-            × (S.taken out.new ≡ Some (before ++ output_of outcome)) × (result ≡ status_after outcome) }
+        × (S.taken out.new ≡ Some (before ++ output_of outcome)) × (result ≡ status_after outcome) }
 
     // Whatever is told: the whole text of some outcome was written with its status, or a front of it where the
     // sink failed. Where the tree tells its files, the outcome is the project's.
     ensures outcome { IsTestAll words.now → (result ≡ ReadFault → ⊥) → (result ≡ OutOfMemory → ⊥)
         → (outcome : Outcome) × Ends result (S.taken out.old) (S.taken out.new) (output_of outcome) (status_after outcome)
-            × ((files : Files) → T.files tree.old ≡ Some files → HasOutcome files outcome) }
+        × ((files : Files) → T.files tree.old ≡ Some files → HasOutcome files outcome) }
 
     // The usage line comes exactly where the words are no command, and then nothing else does.
     ensures usage { (IsTestAll words.now → ⊥) → Ends result (S.taken out.old) (S.taken out.new) usage_line Usage }

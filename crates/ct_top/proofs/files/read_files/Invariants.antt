@@ -9,7 +9,7 @@ use Rattle.ct_top.proofs.files.read_files.Given as goal
 abbrev pub invariant-loop-path : goal.invariant-loop-path
 invariant-loop-path g l =
     ((files : Files) → g.T.Tree.files l.initial.tree ≡ Some files → AreThere files l.paths
-      → l.files.items ≡ with_texts files (texts_of (take l.path-index l.paths)))
+    → l.files.items ≡ with_texts files (texts_of (take l.path-index l.paths)))
     × All (λ file. length file.text ≤ file_bytes) l.files.items
     × (g.T.Tree.files l.tree ≡ g.T.Tree.files l.initial.tree)
     × (g.T.Tree.read_faults l.tree ≡ g.T.Tree.read_faults l.initial.tree)

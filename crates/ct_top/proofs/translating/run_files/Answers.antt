@@ -9,13 +9,13 @@ use Rattle.ct_top.proofs.translating.run_files.Goals as goal
 pub returns-in-Err-clause-refused : goal.returns-in-Err-clause-refused
 returns-in-Err-clause-refused c =
     failed_here (Vec RunLog Global) c.args.files.now c.loop-file.file-index c.file-item.result c.as_str.result.now c.as_slice.result.now c.loop-file.logs.items c.in-Err.fail
-      (omega arith) c.file-item.is c.as_str.ensures c.as_slice.ensures c.in-Err.ensures c.loop-file.invariant
+    (omega arith) c.file-item.is c.as_str.ensures c.as_slice.ensures c.in-Err.ensures c.loop-file.invariant
 
 pub loop-file-preserved : goal.loop-file-preserved
 loop-file-preserved c =
     rw c.in_ok-push-in-Ok.ensures.items
-      (ran_one c.args.files.now c.loop-file.file-index c.file-item.result c.loop-file.logs.items c.in-Ok.log (omega arith) c.file-item.is
-        (of_file c.file-item.result c.as_str.result.now c.as_slice.result.now (Ok c.in-Ok.log) c.as_str.ensures c.as_slice.ensures c.in-Ok.ensures) c.loop-file.invariant)
+    (ran_one c.args.files.now c.loop-file.file-index c.file-item.result c.loop-file.logs.items c.in-Ok.log (omega arith) c.file-item.is
+    (of_file c.file-item.result c.as_str.result.now c.as_slice.result.now (Ok c.in-Ok.log) c.as_str.ensures c.as_slice.ensures c.in-Ok.ensures) c.loop-file.invariant)
 
 pub returns-clause-ok : goal.returns-clause-ok
 returns-clause-ok c =
