@@ -10,6 +10,8 @@ mod project;
 mod refusing;
 mod running;
 mod stops;
+#[cfg(test)]
+mod tests;
 mod top;
 mod translating;
 mod words;
