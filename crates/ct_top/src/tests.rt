@@ -464,6 +464,7 @@ fn nothing_is_listed_or_read_after_a_refusal_that_stops_the_run(
 }
 
 /// A tree that lists a test file which no read finds, and does not tell its files.
+#[derive(Drop)]
 struct Vanishing;
 
 impl Tree for Vanishing {
