@@ -114,9 +114,9 @@ IsUnquotedBehind quote rest =
 unquoted_from : (quote : ℕ) (rest : List ℕ) → is_name_byte quote ≡ false → ((plain after : List ℕ) → quote ≡ 39 → plain ≢ [] → rest ≡ plain ++ 39 ∷ [] ++ after → All (IsPlainBetween 39) plain → ⊥) → ((plain after : List ℕ) → quote ≡ 34 → rest ≡ plain ++ 34 ∷ [] ++ after → All (IsPlainBetween 34) plain → ⊥) → IsUnquotedBehind quote rest
 unquoted_from quote rest apart char text prefix more after is e = (
   λ h. let behind = quoted_behind quote 39 prefix h.0 more apart refl (prefix_leads quote prefix is) h.2 in
-  char h.0 after behind.1 h.1 (e ∙ ap (λ l. l ++ after) behind.2) h.2.3,
+      char h.0 after behind.1 h.1 (e ∙ ap (λ l. l ++ after) behind.2) h.2.3,
   λ h. let behind = quoted_behind quote 34 prefix h.0 more apart refl (prefix_leads quote prefix is) h.1 in
-  text h.0 after behind.1 (e ∙ ap (λ l. l ++ after) behind.2) h.1.3,
+      text h.0 after behind.1 (e ∙ ap (λ l. l ++ after) behind.2) h.1.3,
 )
 
 -- a byte that is no quote
@@ -156,8 +156,10 @@ alone_unquoted first rest name behind nondigit front parts none more after e = (
     leads : Leads (first ∷ name)
     leads =
         (nondigit, recursion_from_All NameByte name (subst (All NameByte) (sym front) (prefix_passes is_name_byte rest)))
+
     whole : (more ++ after) ≡ name
     whole = sym e ∙ parts ∙ ap (λ l. name ++ l) none ∙ append-nil name
+
     never : (quote : ℕ) (plain : List ℕ) → is_name_byte quote ≡ false → IsQuoted quote plain (first ∷ more) → ⊥
     never quote plain apart h =
         no_quote_in_name (first ∷ name) h.0 quote (plain ++ quote ∷ [] ++ after) leads apart
@@ -173,6 +175,7 @@ name_unquoted first rest name inside quote nondigit front apart parts other more
     leads : Leads (first ∷ name)
     leads =
         (nondigit, recursion_from_All NameByte name (subst (All NameByte) (sym front) (prefix_passes is_name_byte rest)))
+
     never : (mark : ℕ) (plain : List ℕ) → is_name_byte mark ≡ false → IsQuoted mark plain (first ∷ more) → ⊥
     never mark plain apart' h =
         let whole : (first ∷ name) ++ quote ∷ inside ≡ h.0 ++ mark ∷ (plain ++ mark ∷ [] ++ after) =
@@ -186,14 +189,15 @@ name_unquoted first rest name inside quote nondigit front apart parts other more
 pub prefix_unquoted : (first : ℕ) (rest name inside : List ℕ) (quote : ℕ) → is_nondigit first ≡ true → name ≡ take (prefix_len is_name_byte rest) rest → is_name_byte quote ≡ false → rest ≡ name ++ (quote ∷ inside) → is_prefix quote (first ∷ name) ≡ true → IsUnquotedBehind quote inside → IsUnquoted first rest
 prefix_unquoted first rest name inside quote nondigit front apart parts is unquoted more after e = (
   λ h. let same = behind 39 h.0 refl h.2 in
-  (unquoted (first ∷ name) same.0 after is same.2).0 (subst (IsToken Char) same.1 h),
+      (unquoted (first ∷ name) same.0 after is same.2).0 (subst (IsToken Char) same.1 h),
   λ h. let same = behind 34 h.0 refl h.1 in
-  (unquoted (first ∷ name) same.0 after is same.2).1 (subst (IsToken Text) same.1 h),
+      (unquoted (first ∷ name) same.0 after is same.2).1 (subst (IsToken Text) same.1 h),
 )
   where
     leads : Leads (first ∷ name)
     leads =
         (nondigit, recursion_from_All NameByte name (subst (All NameByte) (sym front) (prefix_passes is_name_byte rest)))
+
     behind : (mark : ℕ) (plain : List ℕ) → is_name_byte mark ≡ false → IsQuoted mark plain (first ∷ more) → (inner : List ℕ) × (first ∷ more ≡ (first ∷ name) ++ (quote ∷ inner)) × (inside ≡ inner ++ after)
     behind mark plain apart' h =
         let whole : (first ∷ name) ++ quote ∷ inside ≡ h.0 ++ mark ∷ (plain ++ mark ∷ [] ++ after) =
