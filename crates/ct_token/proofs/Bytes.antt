@@ -37,3 +37,12 @@ plain_no_newline b h = grind (arith, nat_tests)
 
 pub nondigit_no_newline : (b : ℕ) → is_nondigit b ≡ true → is_newline b ≡ false
 nondigit_no_newline b h = grind (arith, nat_tests)
+
+pub nondigit_is_name_byte : (b : ℕ) → is_nondigit b ≡ true → is_name_byte b ≡ true
+nondigit_is_name_byte b h = grind (arith, nat_tests)
+
+pub prefix_byte_is_nondigit : (b : ℕ) → ((b == 76) || (b == 117) || (b == 85)) ≡ true → is_nondigit b ≡ true
+prefix_byte_is_nondigit b h = grind (arith, nat_tests)
+
+pub no_name_byte : (b : ℕ) → is_nondigit b ≡ false → is_digit b ≡ false → is_name_byte b ≡ false
+no_name_byte b h k = grind (arith, nat_tests)

@@ -2,13 +2,15 @@
 use Rattle.std.proofs.Common.{◌≡◌, ◌≢◌, ℕ, zero, suc, ◌+◌, ◌<◌, Bool, true, false, ◌&&◌, ◌||◌, List, [], ◌∷◌, ◌++◌, length, get_or, take, drop, refl, sym, ap, ◌∙◌, subst, ◌⊎◌, inl, inr, ⊎_elim, arith}
 use Rattle.std.specs.Prelude.{◌==◌, All}
 use Rattle.std.specs.List.{AllByRecursion, prefix_len}
-use Rattle.std.proofs.lemmas.List.{append_assoc, length-take, take_more}
+use Rattle.std.proofs.lemmas.List.{append_assoc, take-append-drop}
 use Rattle.std.proofs.lemmas.List.Elements.{recursion_from_All}
+use Rattle.std.proofs.lemmas.Bool.Decides.{nat_tests}
 use Rattle.std.proofs.lemmas.Bool.{and_parts, and_from, or_cases, or_left, or_right, false≢true}
 use Rattle.ct_base.specs.declared.lexical.TokenKind.{TokenKind}
 use Rattle.ct_base.specs.declared.lexical.TokenKind.TheVariants.{Name, Number, Char, Text, Punct, Other, Line}
-use Rattle.ct_token.specs.Lexing.{is_digit, is_nondigit, is_name_byte, is_exponent, is_sign, continues_number, all_continue, is_number, IsPlainBetween, IsToken, IsLongest}
-use Rattle.ct_token.proofs.Lists.{none_behind, first_unlike, prefix_stops, prefix_passes, all_at}
+use Rattle.ct_token.specs.Lexing.{is_digit, is_nondigit, is_name_byte, is_blank, is_punctuator, is_other, is_exponent, is_sign, continues_number, all_continue, is_number, IsToken, IsLongest}
+use Rattle.ct_token.proofs.Prefixes.{quoted_first}
+use Rattle.ct_token.proofs.Lists.{none_behind, prefix_stops, prefix_passes, all_at}
 use Rattle.ct_token.proofs.Bytes.{is_digit_or_dot, nondigit_no_number, digit_is_name_byte}
 
 -- what each kind of several bytes begins with
@@ -33,12 +35,6 @@ number_first first (second ∷ bytes) h =
     (λ digit. or_left (is_digit first) (first == 46) digit.0)
     (λ dot. or_right (is_digit first) (first == 46) dot.0)
     (number_cases first second bytes h)
-
-pub char_first : (first : ℕ) (more : List ℕ) → IsToken Char (first ∷ more) → first ≡ 39
-char_first first more h = let e = h.2.0 in cc
-
-pub text_first : (first : ℕ) (more : List ℕ) → IsToken Text (first ∷ more) → first ≡ 34
-text_first first more h = let e = h.1.0 in cc
 
 -- no longer token of one byte
 one_byte : (first byte : ℕ) (bytes more : List ℕ) → first ∷ (bytes ++ more) ≡ byte ∷ [] → more ≡ []
@@ -72,11 +68,13 @@ no_name first bytes after not_so more rest e h = absurd (false≢true (sym not_s
 no_number : (first : ℕ) (bytes after : List ℕ) → is_digit_or_dot first ≡ false → NoLonger Number first bytes after
 no_number first bytes after not_so more rest e h = absurd (false≢true (sym not_so ∙ number_first first (bytes ++ more) h))
 
-no_char : (first : ℕ) (bytes after : List ℕ) → (first ≡ 39 → ⊥) → NoLonger Char first bytes after
-no_char first bytes after not_so more rest e h = absurd (not_so (char_first first (bytes ++ more) h))
+no_char : (first : ℕ) (bytes after : List ℕ) → (first ≡ 39 → ⊥) → is_nondigit first ≡ false → NoLonger Char first bytes after
+no_char first bytes after not_so apart more rest e h =
+    ⊎_elim (λ quote. absurd (not_so quote)) (λ letter. absurd (false≢true (sym apart ∙ letter))) (quoted_first 39 h.0 first (bytes ++ more) h.2)
 
-no_text : (first : ℕ) (bytes after : List ℕ) → (first ≡ 34 → ⊥) → NoLonger Text first bytes after
-no_text first bytes after not_so more rest e h = absurd (not_so (text_first first (bytes ++ more) h))
+no_text : (first : ℕ) (bytes after : List ℕ) → (first ≡ 34 → ⊥) → is_nondigit first ≡ false → NoLonger Text first bytes after
+no_text first bytes after not_so apart more rest e h =
+    ⊎_elim (λ quote. absurd (not_so quote)) (λ letter. absurd (false≢true (sym apart ∙ letter))) (quoted_first 34 h.0 first (bytes ++ more) h.1)
 
 -- a name stops before a byte that is no part of one
 longer_name : (first : ℕ) (rest : List ℕ) → NoLonger Name first (take (prefix_len is_name_byte rest) rest) (drop (prefix_len is_name_byte rest) rest)
@@ -87,16 +85,24 @@ longer_name first rest (c ∷ cs) after e h =
     let all = subst (AllByRecursion (λ byte. is_name_byte byte ≡ true)) same (recursion_from_All (λ byte. is_name_byte byte ≡ true) h.1 h.4) in
     absurd (false≢true (sym (prefix_stops is_name_byte rest c (cs ++ after) e) ∙ all_at (λ byte. is_name_byte byte ≡ true) bytes c cs all))
 
-pub longest_name : (first : ℕ) (rest : List ℕ) → is_nondigit first ≡ true → IsLongest Name (first ∷ take (prefix_len is_name_byte rest) rest) (drop (prefix_len is_name_byte rest) rest)
-longest_name first rest nondigit =
-    let bytes = take (prefix_len is_name_byte rest) rest in
-    let after = drop (prefix_len is_name_byte rest) rest in
+-- no front of the byte and the text behind it is a character constant or a string literal
+abbrev pub IsUnquoted : ℕ → List ℕ → Type 0
+IsUnquoted first rest =
+    (more after : List ℕ) → rest ≡ more ++ after → (IsToken Char (first ∷ more) → ⊥) × (IsToken Text (first ∷ more) → ⊥)
+
+pub longest_name : (first : ℕ) (rest : List ℕ) → is_nondigit first ≡ true → IsUnquoted first rest → IsLongest Name (first ∷ take (prefix_len is_name_byte rest) rest) (drop (prefix_len is_name_byte rest) rest)
+longest_name first rest nondigit unquoted =
+    let count = prefix_len is_name_byte rest in
+    let bytes = take count rest in
+    let after = drop count rest in
+    let front : (more left : List ℕ) → after ≡ more ++ left → rest ≡ bytes ++ more ++ left =
+    λ more left e. sym (take-append-drop count rest) ∙ ap (λ l. bytes ++ l) e ∙ sym (append_assoc bytes more left) in
     longest_from Name first bytes after
     (first, bytes, refl, nondigit, prefix_passes is_name_byte rest)
     (longer_name first rest)
     (no_number first bytes after (nondigit_no_number first nondigit))
-    (no_char first bytes after (λ e. false≢true (ap is_nondigit (sym e) ∙ nondigit)))
-    (no_text first bytes after (λ e. false≢true (ap is_nondigit (sym e) ∙ nondigit)))
+    (λ more left e h. absurd ((unquoted (bytes ++ more) left (front more left e)).0 h))
+    (λ more left e h. absurd ((unquoted (bytes ++ more) left (front more left e)).1 h))
 
 digit_continues : (before byte : ℕ) → is_digit byte ≡ true → continues_number before byte ≡ true
 digit_continues before byte h =
@@ -159,80 +165,28 @@ longest_number first rest count nondigit h goes longest =
     longest_from Number first bytes after number
     (no_name first bytes after nondigit)
     (λ more rest e h. longest more rest e (number_goes_on first (bytes ++ more) h))
-    (no_char first bytes after (λ e. false≢true (ap is_digit_or_dot (sym e) ∙ starts)))
-    (no_text first bytes after (λ e. false≢true (ap is_digit_or_dot (sym e) ∙ starts)))
+    (no_char first bytes after (λ e. false≢true (ap is_digit_or_dot (sym e) ∙ starts)) nondigit)
+    (no_text first bytes after (λ e. false≢true (ap is_digit_or_dot (sym e) ∙ starts)) nondigit)
 
--- a quoted text ends at the first of its quotes
-longer_quoted : (quote first : ℕ) (plain after plain' more rest : List ℕ) → All (IsPlainBetween quote) plain → All (IsPlainBetween quote) plain' → after ≡ more ++ rest → first ∷ (plain ++ quote ∷ [] ++ more) ≡ quote ∷ plain' ++ quote ∷ [] → more ≡ []
-longer_quoted quote first plain after plain' more rest all all' e h =
-    let tail : plain ++ quote ∷ [] ++ more ≡ plain' ++ quote ∷ [] = cc in
-    let same = first_unlike (IsPlainBetween quote) plain plain' quote quote more [] (recursion_from_All (IsPlainBetween quote) plain all) (recursion_from_All (IsPlainBetween quote) plain' all') (λ p. p.0 refl) (λ p. p.0 refl) (sym (append_assoc plain (quote ∷ []) more) ∙ tail) in
-    same.2
+-- a byte that begins none of these is a token of its own
+pub other_byte : (first second : ℕ) → is_blank first ≡ false → is_nondigit first ≡ false → begins first second ≡ false → (first ≡ 10 → ⊥) → is_punctuator first ≡ false → is_other first ≡ true
+other_byte first second blank nondigit number line punctuator = grind (arith, nat_tests)
 
-pub quoted_char : (plain after : List ℕ) → plain ≢ [] → All (IsPlainBetween 39) plain → IsLongest Char (39 ∷ (plain ++ 39 ∷ [])) after
-quoted_char plain after some all =
-    let bytes = plain ++ 39 ∷ [] in
-    longest_from Char 39 bytes after
-    (plain, some, (refl, all))
-    (no_name 39 bytes after refl)
-    (no_number 39 bytes after refl)
-    (λ more rest e h. longer_quoted 39 39 plain after h.0 more rest all h.2.1 e h.2.0)
-    (no_text 39 bytes after (λ e. omega (arith, e)))
+no_number_begins : (first : ℕ) (after : List ℕ) → begins first (get_or after 0 0) ≡ false → NoLonger Number first [] after
+no_number_begins first after stop [] rest e h = refl
+no_number_begins first after stop (second ∷ bytes) rest e h =
+    let here : get_or after 0 0 ≡ second = ap (λ l. get_or l 0 0) e in
+    let stops : begins first second ≡ false = ap (begins first) (sym here) ∙ stop in
+    absurd (false≢true (sym stops ∙ ⊎_elim
+    (λ digit. or_left (is_digit first) ((first == 46) && is_digit second) digit.0)
+    (λ dot. or_right (is_digit first) ((first == 46) && is_digit second) (and_from (first == 46) (is_digit second) dot.0 dot.1))
+    (number_cases first second bytes h)))
 
-pub quoted_text : (plain after : List ℕ) → All (IsPlainBetween 34) plain → IsLongest Text (34 ∷ (plain ++ 34 ∷ [])) after
-quoted_text plain after all =
-    let bytes = plain ++ 34 ∷ [] in
-    longest_from Text 34 bytes after
-    (plain, (refl, all))
-    (no_name 34 bytes after refl)
-    (no_number 34 bytes after refl)
-    (no_char 34 bytes after (λ e. omega (arith, e)))
-    (λ more rest e h. longer_quoted 34 34 plain after h.0 more rest all h.1.1 e h.1.0)
-
--- plain bytes, and then the quote
-abbrev pub IsClosed : ℕ → List ℕ → ℕ → Type 0
-IsClosed quote rest count =
-    (count < length rest) × (get_or rest count 0 ≡ quote) × All (IsPlainBetween quote) (take count rest)
-
--- the bytes up to the quote, and the quote
-up_to_quote : (quote : ℕ) (rest : List ℕ) (count : ℕ) → IsClosed quote rest count → quote ∷ take (count + 1) rest ≡ quote ∷ (take count rest ++ quote ∷ [])
-up_to_quote quote rest count h =
-    ap (λ l. quote ∷ l) (take_more rest count 0 h.0 ∙ ap (λ q. take count rest ++ q ∷ []) h.1)
-
-text_at : (rest : List ℕ) (count : ℕ) → IsClosed 34 rest count → IsLongest Text (34 ∷ take (count + 1) rest) (drop (count + 1) rest)
-text_at rest count h =
-    subst (λ text. IsLongest Text text (drop (count + 1) rest)) (sym (up_to_quote 34 rest count h)) (quoted_text (take count rest) (drop (count + 1) rest) h.2)
-
-pub longest_text : (quote : ℕ) (rest : List ℕ) (count : ℕ) → 34 ≡ quote → IsClosed quote rest count → IsLongest Text (quote ∷ take (count + 1) rest) (drop (count + 1) rest)
-longest_text quote rest count is =
-    subst (λ q. IsClosed q rest count → IsLongest Text (q ∷ take (count + 1) rest) (drop (count + 1) rest)) is (text_at rest count)
-
-char_at : (rest : List ℕ) (count : ℕ) → 0 < count → IsClosed 39 rest count → IsLongest Char (39 ∷ take (count + 1) rest) (drop (count + 1) rest)
-char_at rest count some h =
-    let plain : take count rest ≢ [] = λ none. let e = ap length none in omega (arith, length-take count rest, h.0) in
-    subst (λ text. IsLongest Char text (drop (count + 1) rest)) (sym (up_to_quote 39 rest count h)) (quoted_char (take count rest) (drop (count + 1) rest) plain h.2)
-
-pub longest_char : (quote : ℕ) (rest : List ℕ) (count : ℕ) → 39 ≡ quote → 0 < count → IsClosed quote rest count → IsLongest Char (quote ∷ take (count + 1) rest) (drop (count + 1) rest)
-longest_char quote rest count is some =
-    subst (λ q. IsClosed q rest count → IsLongest Char (q ∷ take (count + 1) rest) (drop (count + 1) rest)) is (char_at rest count some)
-
--- no front of the byte and the text behind it is a character constant or a string literal
-abbrev IsUnquoted : ℕ → List ℕ → Type 0
-IsUnquoted first rest =
-    (more after : List ℕ) → rest ≡ more ++ after → (IsToken Char (first ∷ more) → ⊥) × (IsToken Text (first ∷ more) → ⊥)
-
-empty_at : (rest : List ℕ) → get_or rest 0 0 ≡ 39 → IsUnquoted 39 rest
-empty_at rest quote more after e = (
-  λ char. not_empty char.0 char.1 more after (recursion_from_All (IsPlainBetween 39) char.0 char.2.1) (ap (λ l. get_or l 0 0) (sym e) ∙ quote) (let h = char.2.0 in cc),
-  λ text. let h = text_first 39 more text in omega (arith, h),
-)
-  where
-    not_empty : (plain : List ℕ) → plain ≢ [] → (more after : List ℕ) → AllByRecursion (IsPlainBetween 39) plain → get_or (more ++ after) 0 0 ≡ 39 → more ≡ plain ++ 39 ∷ [] → ⊥
-    not_empty [] some more after all quote h = some refl
-    not_empty (p ∷ ps) some more after all quote h = all.0.0 (ap (λ l. get_or (l ++ after) 0 0) (sym h) ∙ quote)
-
--- two quotes with nothing between them begin neither
-pub empty_unquoted : (quote : ℕ) (rest : List ℕ) (count : ℕ) → 39 ≡ quote → count ≡ 0 → IsClosed quote rest count → IsUnquoted quote rest
-empty_unquoted quote rest count is none h =
-    let closed : get_or rest 0 0 ≡ quote = ap (λ n. get_or rest n 0) (sym none) ∙ h.1 in
-    subst (λ q. get_or rest 0 0 ≡ q → IsUnquoted q rest) is (empty_at rest) closed
+pub longest_other : (first : ℕ) (rest : List ℕ) → is_other first ≡ true → is_nondigit first ≡ false → begins first (get_or rest 0 0) ≡ false → IsUnquoted first rest → IsLongest Other (first ∷ []) rest
+longest_other first rest other nondigit number unquoted =
+    longest_from Other first [] rest
+    (first, refl, other)
+    (no_name first [] rest nondigit)
+    (no_number_begins first rest number)
+    (λ more after e h. absurd ((unquoted more after e).0 h))
+    (λ more after e h. absurd ((unquoted more after e).1 h))

@@ -3,15 +3,16 @@ use Rattle.std.proofs.Common.{◌≡◌, ℕ, ◌+◌, ◌≤◌, true, false, n
 use Rattle.std.specs.Prelude.{All, IsTrue}
 use Rattle.std.specs.List.{AllByRecursion, prefix_len}
 use Rattle.std.proofs.lemmas.List.{append-nil, append_assoc, nil_from_length}
-use Rattle.std.proofs.lemmas.List.Elements.{All-weaker, recursion_from_All}
+use Rattle.std.proofs.lemmas.List.Elements.{All-weaker, All-from_recursion, recursion_from_All}
 use Rattle.std.proofs.lemmas.List.Sums.{sum_by-append, sum_by-cons}
 use Rattle.std.proofs.lemmas.Bool.{and_parts, ne_eqb}
 use Rattle.ct_base.specs.declared.lexical.Token.{Token}
 use Rattle.ct_base.specs.declared.lexical.TokenKind.{TokenKind}
 use Rattle.ct_base.specs.declared.lexical.TokenKind.TheVariants.{Name, Number, Char, Text, Punct, Other, Line}
-use Rattle.ct_token.specs.Lexing.{is_newline, is_blank, is_name_byte, is_none, is_number, continues_number, all_continue, newlines, IsPlainBetween, IsToken, IsLongest, Reads}
+use Rattle.ct_token.specs.Lexing.{is_newline, is_blank, is_none, is_number, continues_number, all_continue, newlines, IsPlainBetween, IsQuoted, IsToken, IsLongest, Reads}
 use Rattle.ct_token.proofs.Bytes.{blank_no_newline, name_byte_no_newline, punctuator_no_newline, other_no_newline, continues_no_newline, digit_or_dot_no_newline, nondigit_no_newline, plain_no_newline}
 use Rattle.ct_token.proofs.Lists.{prefix_stops, prefix_passes}
+use Rattle.ct_token.proofs.Prefixes.{NameByte, Leads, prefix_leads, name_bytes}
 use Rattle.ct_token.proofs.Longest.{number_first, number_goes_on}
 
 -- lines end in both parts of a text
@@ -38,10 +39,21 @@ no_newline_number [] h = refl
 no_newline_number (first ∷ more) h =
     newlines-other first more (digit_or_dot_no_newline first (number_first first more h)) ∙ no_newline_goes_on first more (number_goes_on first more h)
 
-no_newline_quoted : (quote : ℕ) (plain : List ℕ) → is_newline quote ≡ false → All (IsPlainBetween quote) plain → newlines (quote ∷ plain ++ quote ∷ []) ≡ 0
-no_newline_quoted quote plain h all =
+no_newline_between : (quote : ℕ) (plain : List ℕ) → is_newline quote ≡ false → All (IsPlainBetween quote) plain → newlines (quote ∷ plain ++ quote ∷ []) ≡ 0
+no_newline_between quote plain h all =
     let none = no_newlines plain (recursion_from_All (λ byte. is_newline byte ≡ false) plain (All-weaker (IsPlainBetween quote) (λ byte. is_newline byte ≡ false) (λ byte p. plain_no_newline byte p.2) plain all)) in
     newlines-other quote (plain ++ quote ∷ []) h ∙ newlines-append plain (quote ∷ []) ∙ omega (arith, none, newlines-other quote [] h)
+
+no_newline_name : (bytes : List ℕ) → All NameByte bytes → newlines bytes ≡ 0
+no_newline_name bytes all =
+    no_newlines bytes (recursion_from_All (λ byte. is_newline byte ≡ false) bytes (All-weaker NameByte (λ byte. is_newline byte ≡ false) name_byte_no_newline bytes all))
+
+no_newline_prefix : (prefix : List ℕ) → Leads prefix → newlines prefix ≡ 0
+no_newline_prefix prefix leads = no_newline_name prefix (All-from_recursion NameByte prefix (name_bytes prefix leads))
+
+no_newline_quoted : (quote : ℕ) (plain text : List ℕ) → is_newline quote ≡ false → IsQuoted quote plain text → newlines text ≡ 0
+no_newline_quoted quote plain text h quoted =
+    ap newlines quoted.2 ∙ newlines-append quoted.0 (quote ∷ plain ++ quote ∷ []) ∙ omega (arith, no_newline_prefix quoted.0 (prefix_leads quote quoted.0 quoted.1), no_newline_between quote plain h quoted.3)
 
 -- a token other than a new-line holds none
 abbrev pub newlines_in : TokenKind → ℕ
@@ -49,11 +61,10 @@ newlines_in kind = elim kind [ Name ↦ 0 | Number ↦ 0 | Char ↦ 0 | Text ↦
 
 pub newlines_of_token : (kind : TokenKind) (text : List ℕ) → IsToken kind text → newlines text ≡ newlines_in kind
 newlines_of_token Name text h =
-    let all = All-weaker (λ byte. is_name_byte byte ≡ true) (λ byte. is_newline byte ≡ false) name_byte_no_newline h.1 h.4 in
-    ap newlines h.2 ∙ newlines-other h.0 h.1 (nondigit_no_newline h.0 h.3) ∙ no_newlines h.1 (recursion_from_All (λ byte. is_newline byte ≡ false) h.1 all)
+    ap newlines h.2 ∙ newlines-other h.0 h.1 (nondigit_no_newline h.0 h.3) ∙ no_newline_name h.1 h.4
 newlines_of_token Number text h = no_newline_number text h
-newlines_of_token Char text h = ap newlines h.2.0 ∙ no_newline_quoted 39 h.0 refl h.2.1
-newlines_of_token Text text h = ap newlines h.1.0 ∙ no_newline_quoted 34 h.0 refl h.1.1
+newlines_of_token Char text h = no_newline_quoted 39 h.0 text refl h.2
+newlines_of_token Text text h = no_newline_quoted 34 h.0 text refl h.1
 newlines_of_token Punct text h = ap newlines h.1 ∙ newlines-other h.0 [] (punctuator_no_newline h.0 h.2)
 newlines_of_token Other text h = ap newlines h.1 ∙ newlines-other h.0 [] (other_no_newline h.0 h.2)
 newlines_of_token Line text h = ap newlines h

@@ -1,25 +1,33 @@
 -- A text has one list of tokens.
-use Rattle.std.proofs.Common.{◌≡◌, ◌≢◌, ℕ, ◌+◌, true, false, not, cond, List, [], ◌∷◌, ◌++◌, refl, sym, ap, ◌∙◌, subst, ◌⊎◌, inl, inr, ⊎_elim, arith}
+use Rattle.std.proofs.Common.{◌≡◌, ℕ, ◌+◌, true, false, not, cond, List, [], ◌∷◌, ◌++◌, refl, sym, ap, ◌∙◌, subst, ◌⊎◌, inl, inr, ⊎_elim, arith}
 use Rattle.std.specs.Prelude.{◌==◌, All, IsTrue}
+use Rattle.std.specs.List.{AllByRecursion}
 use Rattle.std.proofs.lemmas.List.{append-nil, append_assoc, append_cancel_left}
 use Rattle.std.proofs.lemmas.List.Elements.{recursion_from_All}
-use Rattle.std.proofs.lemmas.Bool.{false≢true, cond-true, eqb-true}
+use Rattle.std.proofs.lemmas.Bool.{false≢true, eqb-true}
 use Rattle.std.proofs.lemmas.Bool.Decides.{nat_tests}
 use Rattle.ct_base.specs.declared.lexical.Token.{Token}
 use Rattle.ct_base.specs.declared.lexical.TokenKind.{TokenKind}
 use Rattle.ct_base.specs.declared.lexical.TokenKind.TheVariants.{Name, Number, Char, Text, Punct, Other, Line}
-use Rattle.ct_token.specs.Lexing.{is_digit, is_nondigit, is_newline, is_blank, is_punctuator, is_other, is_number, is_none, newlines, IsToken, IsLongest, StandsAt, Reads}
+use Rattle.ct_token.specs.Lexing.{is_digit, is_nondigit, is_name_byte, is_newline, is_blank, is_punctuator, is_other, is_number, is_none, newlines, IsToken, IsLongest, StandsAt, Reads}
 use Rattle.ct_token.proofs.Lists.{first_unlike, all_at}
 use Rattle.ct_token.proofs.Bytes.{is_digit_or_dot}
-use Rattle.ct_token.proofs.Longest.{number_cases, number_first, name_first, char_first, text_first}
+use Rattle.ct_token.proofs.Longest.{number_cases, number_first, name_first}
+use Rattle.ct_token.proofs.Prefixes.{NameByte, Leads, prefix_leads, name_bytes, quoted_first}
 
 -- each token has a first byte
+quoted_starts : (quote : ℕ) (prefix bytes : List ℕ) → (first : ℕ) × (more : List ℕ) × (prefix ++ quote ∷ bytes ≡ first ∷ more)
+quoted_starts quote [] bytes = (quote, bytes, refl)
+quoted_starts quote (p ∷ ps) bytes = (p, ps ++ quote ∷ bytes, refl)
+
 starts : (kind : TokenKind) (text : List ℕ) → IsToken kind text → (first : ℕ) × (more : List ℕ) × (text ≡ first ∷ more)
 starts Name text h = (h.0, h.1, h.2)
 starts Number [] h = absurd (false≢true h)
 starts Number (first ∷ more) h = (first, more, refl)
-starts Char text h = (39, h.0 ++ 39 ∷ [], h.2.0)
-starts Text text h = (34, h.0 ++ 34 ∷ [], h.1.0)
+starts Char text h =
+    let start = quoted_starts 39 h.2.0 (h.0 ++ 39 ∷ []) in (start.0, start.1, h.2.2 ∙ start.2)
+starts Text text h =
+    let start = quoted_starts 34 h.1.0 (h.0 ++ 34 ∷ []) in (start.0, start.1, h.1.2 ∙ start.2)
 starts Punct text h = (h.0, [], h.1)
 starts Other text h = (h.0, [], h.1)
 starts Line text h = (10, [], h)
@@ -43,20 +51,27 @@ single_first first byte more e = cc
 not_blank : (kind : TokenKind) (first : ℕ) (more : List ℕ) → IsToken kind (first ∷ more) → is_blank first ≡ false
 not_blank Name first more h = nondigit_no_blank first (name_first first more h)
 not_blank Number first more h = digit_or_dot_no_blank first (number_first first more h)
-not_blank Char first more h = ap is_blank (char_first first more h)
-not_blank Text first more h = ap is_blank (text_first first more h)
+not_blank Char first more h =
+    ⊎_elim (λ quote. ap is_blank quote) (λ letter. nondigit_no_blank first letter) (quoted_first 39 h.0 first more h.2)
+not_blank Text first more h =
+    ⊎_elim (λ quote. ap is_blank quote) (λ letter. nondigit_no_blank first letter) (quoted_first 34 h.0 first more h.1)
 not_blank Punct first more h = ap is_blank (sym (single_first first h.0 more h.1)) ∙ punctuator_no_blank h.0 h.2
 not_blank Other first more h = ap is_blank (sym (single_first first h.0 more h.1)) ∙ other_no_blank h.0 h.2
 not_blank Line first more h = ap is_blank (sym (single_first first 10 more h))
 
--- the kind, by the first byte and whether more follow it
+-- the kind of a name or of what is quoted, by the first of the quotes
+abbrev kind_by_quote : List ℕ → TokenKind
+kind_by_quote [] = Name
+kind_by_quote (byte ∷ bytes) = cond (byte == 39) Char (cond (byte == 34) Text (kind_by_quote bytes))
+
+-- the kind, by the first byte and what more follow it
 abbrev kind_alone : ℕ → List ℕ → TokenKind
-kind_alone first [] = Other
-kind_alone first (byte ∷ bytes) = cond (first == 46) Number (cond (first == 39) Char Text)
+kind_alone first [] = cond (is_nondigit first) Name Other
+kind_alone first (byte ∷ bytes) = cond (first == 46) Number (kind_by_quote (first ∷ byte ∷ bytes))
 
 abbrev kind_at : ℕ → List ℕ → TokenKind
 kind_at first more =
-    cond (is_nondigit first) Name (cond (is_digit first) Number (cond (is_newline first) Line (cond (is_punctuator first) Punct (kind_alone first more))))
+    cond (is_digit first) Number (cond (is_newline first) Line (cond (is_punctuator first) Punct (kind_alone first more)))
 
 digit_kind : (first : ℕ) (more : List ℕ) → is_digit first ≡ true → kind_at first more ≡ Number
 digit_kind first more h = grind (arith, nat_tests)
@@ -67,13 +82,21 @@ punctuator_kind first h = grind (arith, nat_tests)
 other_kind : (first : ℕ) → is_other first ≡ true → kind_at first [] ≡ Other
 other_kind first h = grind (arith, nat_tests)
 
-char_kind : (plain : List ℕ) → plain ≢ [] → kind_at 39 (plain ++ 39 ∷ []) ≡ Char
-char_kind [] some = absurd (some refl)
-char_kind (byte ∷ bytes) some = refl
+nondigit_kind : (first : ℕ) (more : List ℕ) → is_nondigit first ≡ true → kind_at first more ≡ kind_by_quote (first ∷ more)
+nondigit_kind first [] h = grind (arith, nat_tests)
+nondigit_kind first (byte ∷ bytes) h = grind (arith, nat_tests)
 
-text_kind : (plain : List ℕ) → kind_at 34 (plain ++ 34 ∷ []) ≡ Text
-text_kind [] = refl
-text_kind (byte ∷ bytes) = refl
+name_byte_goes_on : (byte : ℕ) (bytes : List ℕ) → is_name_byte byte ≡ true → kind_by_quote (byte ∷ bytes) ≡ kind_by_quote bytes
+name_byte_goes_on byte bytes h = grind (arith, nat_tests)
+
+-- the bytes of a name hold no quote
+goes_on : (name bytes : List ℕ) → AllByRecursion NameByte name → kind_by_quote (name ++ bytes) ≡ kind_by_quote bytes
+goes_on [] bytes all = refl
+goes_on (byte ∷ name) bytes all = name_byte_goes_on byte (name ++ bytes) all.0 ∙ goes_on name bytes all.1
+
+name_kind : (first : ℕ) (more : List ℕ) → is_nondigit first ≡ true → AllByRecursion NameByte more → kind_at first more ≡ Name
+name_kind first more h all =
+    nondigit_kind first more h ∙ ap kind_by_quote (sym (append-nil (first ∷ more))) ∙ goes_on (first ∷ more) [] (name_bytes (first ∷ more) (h, all))
 
 number_kind : (first : ℕ) (more : List ℕ) → is_number (first ∷ more) ≡ true → kind_at first more ≡ Number
 number_kind first [] h = digit_kind first [] h
@@ -88,12 +111,28 @@ abbrev kind_of : List ℕ → TokenKind
 kind_of [] = Other
 kind_of (first ∷ more) = kind_at first more
 
+char_kind : (plain : List ℕ) → kind_at 39 (plain ++ 39 ∷ []) ≡ Char
+char_kind [] = refl
+char_kind (byte ∷ bytes) = refl
+
+text_kind : (plain : List ℕ) → kind_at 34 (plain ++ 34 ∷ []) ≡ Text
+text_kind [] = refl
+text_kind (byte ∷ bytes) = refl
+
+-- a prefix leaves the kind as it is
+prefixed_kind : (quote : ℕ) (prefix bytes : List ℕ) → Leads prefix → kind_at quote bytes ≡ kind_by_quote (quote ∷ bytes) → kind_of (prefix ++ quote ∷ bytes) ≡ kind_by_quote (quote ∷ bytes)
+prefixed_kind quote [] bytes leads bare = bare
+prefixed_kind quote (p ∷ ps) bytes leads bare =
+    nondigit_kind p (ps ++ quote ∷ bytes) leads.0 ∙ goes_on (p ∷ ps) (quote ∷ bytes) (name_bytes (p ∷ ps) leads)
+
 kind_is : (kind : TokenKind) (text : List ℕ) → IsToken kind text → kind_of text ≡ kind
-kind_is Name text h = ap kind_of h.2 ∙ cond-true (is_nondigit h.0) Name _ h.3
+kind_is Name text h = ap kind_of h.2 ∙ name_kind h.0 h.1 h.3 (recursion_from_All NameByte h.1 h.4)
 kind_is Number [] h = absurd (false≢true h)
 kind_is Number (first ∷ more) h = number_kind first more h
-kind_is Char text h = ap kind_of h.2.0 ∙ char_kind h.0 h.1
-kind_is Text text h = ap kind_of h.1.0 ∙ text_kind h.0
+kind_is Char text h =
+    ap kind_of h.2.2 ∙ prefixed_kind 39 h.2.0 (h.0 ++ 39 ∷ []) (prefix_leads 39 h.2.0 h.2.1) (char_kind h.0)
+kind_is Text text h =
+    ap kind_of h.1.2 ∙ prefixed_kind 34 h.1.0 (h.0 ++ 34 ∷ []) (prefix_leads 34 h.1.0 h.1.1) (text_kind h.0)
 kind_is Punct text h = ap kind_of h.1 ∙ punctuator_kind h.0 h.2
 kind_is Other text h = ap kind_of h.1 ∙ other_kind h.0 h.2
 kind_is Line text h = ap kind_of h

@@ -63,9 +63,18 @@ is_number (first ∷ second ∷ bytes) =
 abbrev pub IsPlainBetween : ℕ → ℕ → Type 0
 IsPlainBetween quote byte = (byte ≢ quote) × (byte ≢ 92) × (byte ≢ 10)
 
--- plain bytes between two quotes
+-- an encoding prefix, which may stand before a quote: `L`, `u` or `U`, and `u8` before a string literal
+-- alone; none is one too (6.4.4.4, 6.4.5)
+abbrev pub is_prefix : ℕ → List ℕ → Bool
+is_prefix quote [] = true
+is_prefix quote (byte ∷ []) = (byte == 76) || (byte == 117) || (byte == 85)
+is_prefix quote (byte ∷ digit ∷ []) = (quote == 34) && (byte == 117) && (digit == 56)
+is_prefix quote (byte ∷ digit ∷ next ∷ bytes) = false
+
+-- an encoding prefix, and plain bytes between two quotes
 abbrev pub IsQuoted : ℕ → List ℕ → List ℕ → Type 0
-IsQuoted quote plain text = (text ≡ quote ∷ plain ++ quote ∷ []) × All (IsPlainBetween quote) plain
+IsQuoted quote plain text =
+    (prefix : List ℕ) × IsTrue (is_prefix quote prefix) × (text ≡ prefix ++ (quote ∷ plain ++ quote ∷ [])) × All (IsPlainBetween quote) plain
 
 -- What a token of each kind is, as a whole. A character constant has at least one character.
 abbrev pub IsToken : TokenKind → List ℕ → Type 0

@@ -1,8 +1,8 @@
 //! How far white space and tokens reach.
 
-ghost use Rattle.std.specs.Prelude.{◌≡◌, ◌<◌, ◌≤◌, ◌==◌, ◌&&◌, ◌||◌, false, IsTrue, List, [], ℕ, ◌∷◌, ◌++◌, All, IfNone, IfSome, MatchOption, length, slice_index, take, drop};
+ghost use Rattle.std.specs.Prelude.{◌≡◌, ◌<◌, ◌≤◌, ◌==◌, ◌&&◌, ◌||◌, true, false, IsTrue, List, [], ℕ, ◌∷◌, ◌++◌, All, IfNone, IfSome, MatchOption, length, slice_index, take, drop};
 ghost use Rattle.std.specs.List.{prefix_len};
-ghost use Rattle.ct_token.specs.Lexing.{is_blank, is_digit, is_name_byte, all_continue, IsPlainBetween, IsToken, IsLongest};
+ghost use Rattle.ct_token.specs.Lexing.{is_blank, is_digit, is_nondigit, is_name_byte, all_continue, is_prefix, IsPlainBetween, IsToken, IsLongest};
 ghost use Rattle.ct_base.specs.declared.lexical.TokenKind.TheVariants.{Char, Text};
 
 use crate::classes::{
@@ -70,25 +70,70 @@ fn begins_number(first: u8, rest: &[u8]) -> bool
     }
 }
 
-/// The character constant or string literal that this byte and the bytes behind it begin: its
-/// kind, and how many bytes it has behind its first.
-fn quoted_at(first: u8, rest: &[u8]) -> Option<(TokenKind, usize)>
+/// The character constant or string literal that a quote and the bytes behind it begin, where an
+/// encoding prefix may stand before the quote: its kind, and how many bytes it has behind the quote.
+fn quoted_at(quote: u8, rest: &[u8]) -> Option<(TokenKind, usize)>
+    requires { is_name_byte quote ≡ false }
+    ensures within { IfSome result (λ found. found.1 ≤ length rest.now) }
+    ensures found { IfSome result (λ found. (prefix : List ℕ) → IsTrue (is_prefix quote prefix)
+        → IsLongest found.0 (prefix ++ (quote ∷ take found.1 rest.now)) (drop found.1 rest.now)) }
+    ensures none { IfNone result ((prefix more after : List ℕ) → IsTrue (is_prefix quote prefix) → rest.now ≡ more ++ after
+        → (IsToken Char (prefix ++ (quote ∷ more)) → ⊥) × (IsToken Text (prefix ++ (quote ∷ more)) → ⊥)) }
+{
+    match quote {
+        b'"' => {
+            let count = quoted_len(quote, rest)?;
+            Some((TokenKind::Text, count + 1))
+        }
+        b'\'' => match quoted_len(quote, rest)? {
+            0 => None,
+            count => Some((TokenKind::Char, count + 1)),
+        },
+        _ => None,
+    }
+}
+
+/// Whether a name, of this byte and those behind it, is an encoding prefix before this quote (C11
+/// 6.4.4.4, 6.4.5).
+fn is_prefix(quote: u8, first: u8, more: &[u8]) -> bool
+    ensures { result ≡ is_prefix quote (first ∷ more.now) }
+{
+    match more {
+        [] => matches!(first, b'L' | b'u' | b'U'),
+        [digit] => quote == b'"' && first == b'u' && *digit == b'8',
+        _ => false,
+    }
+}
+
+/// The character constant or string literal with an encoding prefix that a letter or `_` and the
+/// bytes behind it begin: its kind, and how many bytes it has behind its first.
+fn prefixed_at(first: u8, rest: &[u8]) -> Option<(TokenKind, usize)>
+    requires { is_nondigit first ≡ true }
     ensures within { IfSome result (λ found. found.1 ≤ length rest.now) }
     ensures found { IfSome result (λ found.
         IsLongest found.0 (first ∷ take found.1 rest.now) (drop found.1 rest.now)) }
     ensures none { IfNone result ((more after : List ℕ) → rest.now ≡ more ++ after
         → (IsToken Char (first ∷ more) → ⊥) × (IsToken Text (first ∷ more) → ⊥)) }
 {
-    match first {
-        b'"' => {
-            let count = quoted_len(first, rest)?;
-            Some((TokenKind::Text, count + 1))
-        }
-        b'\'' => match quoted_len(first, rest)? {
-            0 => None,
-            count => Some((TokenKind::Char, count + 1)),
-        },
-        _ => None,
+    let (name, behind) = rest.split_at(name_len(rest));
+    let (quote, inside) = behind.split_first()?;
+    if !is_prefix(*quote, first, name) {
+        return None;
+    }
+    let (kind, count) = quoted_at(*quote, inside)?;
+    Some((kind, name.len() + 1 + count))
+}
+
+/// The longest token that a letter or `_` and the bytes behind it begin: its kind, and how many
+/// bytes it has behind its first.
+fn named_at(first: u8, rest: &[u8]) -> (TokenKind, usize)
+    requires { is_nondigit first ≡ true }
+    ensures within { result.1 ≤ length rest.now }
+    ensures longest { IsLongest result.0 (first ∷ take result.1 rest.now) (drop result.1 rest.now) }
+{
+    match prefixed_at(first, rest) {
+        Some(found) => found,
+        None => (TokenKind::Name, name_len(rest)),
     }
 }
 
@@ -100,7 +145,7 @@ pub fn token_at(first: u8, rest: &[u8]) -> (TokenKind, usize)
     ensures longest { IsLongest result.0 (first ∷ take result.1 rest.now) (drop result.1 rest.now) }
 {
     if is_nondigit(first) {
-        (TokenKind::Name, name_len(rest))
+        named_at(first, rest)
     } else if begins_number(first, rest) {
         (TokenKind::Number, number_len(first, rest))
     } else if let Some(found) = quoted_at(first, rest) {

@@ -144,7 +144,7 @@ fn numbers_reach_as_far_as_they_can(rt: HostRuntime) -> Result<(), Fail> {
 
 #[test]
 fn quotes_are_closed_on_their_line_or_stand_alone(rt: HostRuntime) -> Result<(), Fail> {
-    let table: [(&[u8], &[Row]); 18] = [
+    let table: [(&[u8], &[Row]); 17] = [
         (b"\"a b\"", &[(Text, b"\"a b\"", 1, false)]),
         (
             b"\"a\nb\"",
@@ -193,7 +193,6 @@ fn quotes_are_closed_on_their_line_or_stand_alone(rt: HostRuntime) -> Result<(),
             b"\"ab",
             &[(Other, b"\"", 1, false), (Name, b"ab", 1, false)],
         ),
-        (b"L'a'", &[(Name, b"L", 1, false), (Char, b"'a'", 1, false)]),
         (
             b"'\\n'",
             &[
@@ -211,6 +210,72 @@ fn quotes_are_closed_on_their_line_or_stand_alone(rt: HostRuntime) -> Result<(),
                 (Text, b"\"unity.h\"", 1, true),
                 (Line, b"\n", 1, false),
             ],
+        ),
+    ];
+    for (text, rows) in table {
+        compare(&rt, text, rows)?;
+    }
+    Ok(())
+}
+
+#[test]
+fn an_encoding_prefix_belongs_to_what_is_quoted(rt: HostRuntime) -> Result<(), Fail> {
+    let table: [(&[u8], &[Row]); 19] = [
+        (b"L\"x\"", &[(Text, b"L\"x\"", 1, false)]),
+        (b"u8\"a\"", &[(Text, b"u8\"a\"", 1, false)]),
+        (b"u\"a\"", &[(Text, b"u\"a\"", 1, false)]),
+        (b"U\"\"", &[(Text, b"U\"\"", 1, false)]),
+        (b"L'a'", &[(Char, b"L'a'", 1, false)]),
+        (b"u'ab'", &[(Char, b"u'ab'", 1, false)]),
+        (b"U'a'", &[(Char, b"U'a'", 1, false)]),
+        (
+            b"u8'a'",
+            &[(Name, b"u8", 1, false), (Char, b"'a'", 1, false)],
+        ),
+        (
+            b"L\"a\\\"",
+            &[
+                (Name, b"L", 1, false),
+                (Other, b"\"", 1, false),
+                (Name, b"a", 1, false),
+                (Other, b"\\", 1, false),
+                (Other, b"\"", 1, false),
+            ],
+        ),
+        (
+            b"LL\"x\"",
+            &[(Name, b"LL", 1, false), (Text, b"\"x\"", 1, false)],
+        ),
+        (
+            b"l\"x\"",
+            &[(Name, b"l", 1, false), (Text, b"\"x\"", 1, false)],
+        ),
+        (
+            b"U8\"x\"",
+            &[(Name, b"U8", 1, false), (Text, b"\"x\"", 1, false)],
+        ),
+        (
+            b"u81\"x\"",
+            &[(Name, b"u81", 1, false), (Text, b"\"x\"", 1, false)],
+        ),
+        (b"u8", &[(Name, b"u8", 1, false)]),
+        (b"x L", &[(Name, b"x", 1, false), (Name, b"L", 1, true)]),
+        (b"u\"", &[(Name, b"u", 1, false), (Other, b"\"", 1, false)]),
+        (
+            b"L''",
+            &[
+                (Name, b"L", 1, false),
+                (Other, b"'", 1, false),
+                (Other, b"'", 1, false),
+            ],
+        ),
+        (
+            b"L \"x\"",
+            &[(Name, b"L", 1, false), (Text, b"\"x\"", 1, true)],
+        ),
+        (
+            b"\"a\"L\"b\"",
+            &[(Text, b"\"a\"", 1, false), (Text, b"L\"b\"", 1, false)],
         ),
     ];
     for (text, rows) in table {
