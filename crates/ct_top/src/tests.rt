@@ -307,7 +307,13 @@ fn each_front_of_a_test_file_passes_or_is_refused_by_one_line(rt: HostRuntime) -
         let mut tree = tree_of(alloc, &files, &[])?;
         let mut sink = MemSink::new(alloc, ROOM, Vec::new(alloc))?;
         let answer = run_all(alloc, &mut tree, &mut sink)?;
-        if answer != Status::Passed {
+        if answer == Status::Passed {
+            let text = sink.taken();
+            assert!(rt;
+                text == NO_TESTS_IN_ONE_FILE || text == WORKED_REPORT,
+                "length {length}"
+            );
+        } else {
             assert_eq!(rt; answer, Status::Refused, "length {length}");
             assert!(rt;
                 sink.taken().starts_with(b"ERROR: test/test_a.c:"),
