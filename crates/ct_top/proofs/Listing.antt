@@ -1,6 +1,6 @@
 -- From the listing of the test folder to the test files.
-use Rattle.std.proofs.Common.{◌≡◌, ℕ, zero, suc, ◌+◌, ◌<◌, ◌≤◌, List, [], ◌∷◌, ◌++◌, Bool, true, false, cond, length, get_or, take, drop, map, refl, sym, ap, subst, ◌∙◌, arith}
-use Rattle.std.specs.Prelude.{Option, Some, None, Ok, Err, IsSome, codes, if◌then◌else◌, IfSome, IsTrue, String, string_bytes, filter, not, ◌&&◌, ◌==◌, nat_eq, nat_lt, ◌↔◌}
+use Rattle.std.proofs.Common.{◌≡◌, ℕ, zero, suc, ◌+◌, ◌<◌, ◌≤◌, List, [], ◌∷◌, ◌++◌, Bool, true, false, cond, length, get_or, take, drop, refl, sym, ap, subst, ◌∙◌, arith}
+use Rattle.std.specs.Prelude.{Some, None, Ok, Err, IsSome, codes, if◌then◌else◌, String, string_bytes, filter, not, ◌&&◌, nat_eq, nat_lt}
 use Rattle.std.specs.declared.alloc.Global.{Global}
 use Rattle.std.specs.Option.{option_map}
 use Rattle.std.specs.FinMap.{get}
@@ -21,11 +21,10 @@ use Rattle.std.proofs.lemmas.Bool.Decides.{nat_tests}
 use Rattle.ct_outside.specs.declared.tree.Entry.{Entry}
 use Rattle.ct_outside.specs.declared.tree.Found.{Found}
 use Rattle.ct_outside.specs.declared.tree.Found.TheVariants.{There, Absent, TooLarge}
-use Rattle.ct_outside.specs.Files.{EachOnce, Files, IsEntry, IsListing, Leaves, ListsFolder, entry_at, is_slash, rest_below}
+use Rattle.ct_outside.specs.Files.{EachOnce, Files, IsEntry, IsListing, Leaves, ListsFolder, entry_at, is_slash}
 use Rattle.ct_top.specs.Project.{AfterListing, AreTestFiles, IsTestFile, Outcome, ReadFilesMean, TestsMean, in_test_folder, is_test_file_name, most_entries, test_folder, too_many_entries, with_texts}
 use Rattle.ct_top.specs.Read.{AreThere, is_test_entry, test_paths_of, texts_of}
 use Rattle.ct_top.proofs.Members.{contains_filter, contains_map, contains_none, filter_contains, map_contains, once_filter, once_map, once_permutation}
-use Rattle.ct_top.proofs.Projects.{told_at}
 
 -- an element that is there does not depend on the default
 get_or_apart : {A : Type 0} (xs : List A) (k : ℕ) (d e : A) → k < length xs → get_or xs k d ≡ get_or xs k e

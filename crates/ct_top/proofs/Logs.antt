@@ -1,5 +1,5 @@
 -- The logs of the files that were run so far.
-use Rattle.std.proofs.Common.{inl, inr, ◌≡◌, ℕ, zero, suc, ◌+◌, ◌<◌, List, [], ◌∷◌, ◌++◌, length, get_or, drop, refl, sym, ap, subst, ◌∙◌, append_assoc, append-nil, arith, add-one}
+use Rattle.std.proofs.Common.{inl, inr, ◌≡◌, ℕ, zero, suc, ◌+◌, ◌<◌, List, [], ◌∷◌, ◌++◌, length, get_or, drop, refl, sym, ap, subst, append_assoc, append-nil, arith, add-one}
 use Rattle.std.specs.Prelude.{Result, Ok, Err}
 use Rattle.ct_base.specs.Answers.{IfFault, OnAnswer}
 use Rattle.ct_base.specs.declared.memory.Fail.{Fail}

@@ -1,13 +1,13 @@
 -- What the project file makes of a project.
-use Rattle.std.proofs.Common.{◌≡◌, ℕ, ◌<◌, ◌≤◌, List, [], ◌∷◌, ◌++◌, Bool, true, false, length, refl, sym, ap, subst, ◌∙◌, arith, append-nil}
-use Rattle.std.specs.Prelude.{Option, Some, None, IfSome, IsSomeAnd, Result, Ok, Err}
+use Rattle.std.proofs.Common.{◌≡◌, ℕ, ◌<◌, ◌≤◌, List, [], ◌∷◌, ◌++◌, true, false, length, refl, sym, ap, subst, ◌∙◌, arith}
+use Rattle.std.specs.Prelude.{Option, Some, None, IfSome, IsSomeAnd, Err}
 use Rattle.std.specs.FinMap.{get}
 use Rattle.std.proofs.lemmas.Bool.Decides.{nat_tests}
 use Rattle.ct_base.specs.declared.refusals.Refusal.{Refusal}
 use Rattle.ct_outside.specs.Files.{Files, ReadsFile}
 use Rattle.ct_outside.specs.declared.tree.Found.{Found}
 use Rattle.ct_outside.specs.declared.tree.Found.TheVariants.{There, Absent, TooLarge}
-use Rattle.ct_top.specs.Project.{AfterProject, HasOutcome, Outcome, TestsMean, file_bytes, is_too_long, no_project, no_settings, project_path, project_refusal, refusal_of_text, too_long}
+use Rattle.ct_top.specs.Project.{AfterProject, HasOutcome, file_bytes, is_too_long, no_project, no_settings, project_path, project_refusal, refusal_of_text, too_long}
 
 -- what is said where an option is there
 pub told_at : {A : Type 0} (o : Option A) (P : A → Type 0) (x : A) → IfSome o P → o ≡ Some x → P x

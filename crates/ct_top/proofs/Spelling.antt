@@ -1,6 +1,6 @@
 -- The value that decimal digits write.
-use Rattle.std.proofs.Common.{◌≡◌, ℕ, ◌<◌, ◌≤◌, ◌^◌, List, Bool, true, false, refl, sym, ap, subst, arith, rules, ◌∙◌}
-use Rattle.std.specs.Prelude.{decimal, Result, Ok, Err, Option, Some, None, ◌&&◌, nat_le, if◌then◌else◌}
+use Rattle.std.proofs.Common.{◌≡◌, ℕ, ◌≤◌, List, Bool, true, false, refl, sym, ap, arith, ◌∙◌}
+use Rattle.std.specs.Prelude.{decimal, Result, Ok, Option, Some, None, ◌&&◌, nat_le, if◌then◌else◌}
 use Rattle.std.specs.Str.{bytes_eq}
 use Rattle.std.specs.Str.Parse.{digits_value, ParsesUnsigned}
 use Rattle.std.proofs.lemmas.Fmt.{decimal_is_IsNumeral, parse-decimal}

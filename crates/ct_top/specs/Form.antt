@@ -1,8 +1,7 @@
 -- What a test file may contain: includes of `unity.h`, and test functions whose statements each compare two numbers.
-use Rattle.std.specs.Prelude.{◌≡◌, ◌≢◌, ℕ, ◌+◌, ◌<◌, ◌≤◌, ◌⊎◌, ◌||◌, Bool, true, false, IsTrue, List, [], ◌∷◌, ◌++◌, All, flat_map, length, nat_eq, Option, Some, None, IfSome, Result, Ok, Err, codes, decimal, if◌then◌else◌}
+use Rattle.std.specs.Prelude.{◌≡◌, ◌≢◌, ℕ, ◌<◌, ◌≤◌, ◌⊎◌, ◌||◌, Bool, true, false, IsTrue, List, [], ◌∷◌, ◌++◌, All, flat_map, length, nat_eq, Option, Some, None, IfSome, Result, Ok, Err, codes, decimal, if◌then◌else◌}
 use Rattle.std.specs.List.{starts_with, list_any}
 use Rattle.ct_base.specs.declared.lexical.Token.{Token}
-use Rattle.ct_base.specs.declared.lexical.TokenKind.{TokenKind}
 use Rattle.ct_base.specs.declared.lexical.TokenKind.TheVariants.{Name, Number, Char, Text, Punct, Other, Line}
 use Rattle.ct_top.specs.declared.form.Check.{Check}
 use Rattle.ct_top.specs.declared.form.TestFunction.{TestFunction}

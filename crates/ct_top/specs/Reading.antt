@@ -1,9 +1,8 @@
 -- What a reader of the form answers at the front of a list of tokens: what stands there, and what follows.
-use Rattle.std.specs.Prelude.{◌≡◌, ℕ, ◌&&◌, ◌==◌, Bool, IsTrue, List, [], ◌∷◌, ◌++◌, All, Option, Some, None, Result, Ok, Err, codes, decimal, nat_le, bytes_eq, if◌then◌else◌}
+use Rattle.std.specs.Prelude.{◌≡◌, ℕ, ◌&&◌, Bool, List, Option, Some, None, Result, Ok, Err, codes, decimal, nat_le, bytes_eq, if◌then◌else◌}
 use Rattle.std.specs.Str.Parse.{digits_value}
 use Rattle.ct_base.specs.declared.lexical.Token.{Token}
 use Rattle.ct_top.specs.declared.form.Check.{Check}
-use Rattle.ct_top.specs.declared.form.TestFunction.{TestFunction}
 use Rattle.ct_top.specs.declared.form.Miss.{Miss}
 use Rattle.ct_top.specs.declared.form.Miss.TheVariants.{Elsewhere, OutOfMemory}
 use Rattle.ct_top.specs.Form.{first_word, is_test_name, int_max}

@@ -1,7 +1,7 @@
 -- How a run that is cut short leaves what it was lent.
 use Rattle.std.specs.Prelude.{◌≡◌, ◌⊎◌, ℕ, List, Option, Result, Ok, Err}
 use Rattle.ct_base.specs.declared.answers.Status.{Status}
-use Rattle.ct_base.specs.declared.answers.Status.TheVariants.{Passed, Failed, Refused, ReadFault, WriteFault, OutFault, OutOfMemory, Usage}
+use Rattle.ct_base.specs.declared.answers.Status.TheVariants.{ReadFault, WriteFault, OutFault}
 use Rattle.ct_base.specs.declared.refusals.Refusal.{Refusal}
 use Rattle.ct_base.specs.declared.memory.Fail.{Fail}
 use Rattle.ct_base.specs.declared.memory.Fail.TheVariants as fail

@@ -1,4 +1,4 @@
-use Rattle.std.proofs.Common.{arith, rules, ◌<◌, length}
+use Rattle.std.proofs.Common.{rules, ◌<◌, length}
 use Rattle.ct_top.proofs.Projects.{absent, not_empty, too_large}
 use Rattle.ct_top.proofs.project.check_project_file.Goals as goal
 

@@ -4,7 +4,7 @@ use Rattle.ct_outside.specs.declared.tree.Entry.{Entry}
 use Rattle.ct_top.specs.Read.{test_paths_of, texts_of}
 use Rattle.ct_outside.specs.Files.{Files, IsListing, ListsFolder}
 use Rattle.ct_top.specs.Project.{most_entries, test_folder}
-use Rattle.ct_top.proofs.Listing.{goes_on_listed, listed, too_many}
+use Rattle.ct_top.proofs.Listing.{goes_on_listed, listed}
 use Rattle.ct_top.proofs.Projects.{told_at}
 use Rattle.ct_top.proofs.project.test_paths.Goals as goal
 

@@ -1,9 +1,8 @@
 use Rattle.std.proofs.Common.{◌∙◌, ◌≡◌, List, sym, subst}
-use Rattle.std.specs.Prelude.{Some, Ok, Err, String, Vec}
+use Rattle.std.specs.Prelude.{Some, Ok, String, Vec}
 use Rattle.ct_report.specs.declared.logs.RunLog.{RunLog}
 use Rattle.std.specs.declared.alloc.Global.{Global}
 use Rattle.std.proofs.lemmas.Result.{err_from_is_err_and}
-use Rattle.ct_outside.specs.Files.{Files}
 use Rattle.ct_top.specs.declared.files.TestFile.{TestFile}
 use Rattle.ct_top.specs.Project.{FilesMean, HasOutcome, Outcome, ReadFilesMean, TestsMean, with_texts}
 use Rattle.ct_top.specs.Read.{AreThere, texts_of}

@@ -1,4 +1,4 @@
-use Rattle.std.proofs.Common.{arith, rules, ◌≡◌, [], length, drop}
+use Rattle.std.proofs.Common.{arith, ◌≡◌, [], drop}
 use Rattle.std.specs.Prelude.{Ok, Vec}
 use Rattle.std.specs.declared.alloc.Global.{Global}
 use Rattle.ct_report.specs.declared.logs.RunLog.{RunLog}

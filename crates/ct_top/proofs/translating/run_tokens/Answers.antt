@@ -1,6 +1,5 @@
 use Rattle.std.proofs.Common.{◌≡◌, rules, sym}
 use Rattle.std.specs.Prelude.{None}
-use Rattle.ct_report.specs.declared.logs.RunLog.{RunLog}
 use Rattle.ct_top.specs.Form.{first_word}
 use Rattle.ct_top.proofs.Texts.{made, token_refused, tokens_read}
 use Rattle.ct_top.proofs.translating.run_tokens.Goals as goal
