@@ -1,6 +1,6 @@
 //! The tree of the files of a folder.
 
-ghost use Rattle.std.specs.Prelude.{◌≡◌, ◌↔◌, None, ◌≤◌, IfOk, IsErr, vec_len};
+ghost use Rattle.std.specs.Prelude.{◌≡◌, ◌↔◌, ◌-◌, ◌^◌, None, ◌≤◌, IfOk, IsErr, vec_len};
 ghost use Rattle.std.specs.IoError.{error_kind};
 ghost use Rattle.ct_cli.specs.Systems.{cause_at};
 ghost use Rattle.ct_outside.specs.Counts.{CountAfter, Rose};
@@ -154,6 +154,7 @@ fn answer_to(error: &io::Error, faults: &mut u64) -> Result<Found, TreeError>
     ensures missing { result ≡ Ok Found.Absent ↔ (cause_at (error_kind error.now) ≡ Cause.Missing) }
     ensures never_there { IfOk result (λ found. found ≡ Found.Absent) }
     ensures faults { CountAfter result faults.old faults.new }
+    ensures bounded { faults.old ≤ 2 ^ 64 - 1 → faults.new ≤ 2 ^ 64 - 1 }
 {
     match cause_of(error) {
         Cause::Missing => Ok(Found::Absent),
@@ -167,6 +168,7 @@ fn answer_to_write(error: &io::Error, faults: &mut u64) -> Result<(), TreeError>
     ensures memory { result ≡ Err TreeError.OutOfMemory ↔ (cause_at (error_kind error.now) ≡ Cause.OutOfMemory) }
     ensures never_done { IsErr result }
     ensures faults { CountAfter result faults.old faults.new }
+    ensures bounded { faults.old ≤ 2 ^ 64 - 1 → faults.new ≤ 2 ^ 64 - 1 }
 {
     match cause_of(error) {
         Cause::OutOfMemory => Err(TreeError::OutOfMemory),
@@ -178,6 +180,7 @@ fn answer_to_write(error: &io::Error, faults: &mut u64) -> Result<(), TreeError>
 fn failed(faults: &mut u64) -> TreeError
     ensures answer { result ≡ TreeError.Failed }
     ensures rose { Rose faults.old faults.new }
+    ensures bounded { faults.new ≤ 2 ^ 64 - 1 }
 {
     raise(faults);
     TreeError::Failed
