@@ -1,0 +1,11 @@
+pub mod Grow
+pub mod Undo
+pub mod Steps
+pub mod Scan
+pub mod Onto
+pub mod ScalarLemmas
+pub mod ValueLemmas
+pub mod LineLemmas
+pub mod Putting
+pub mod RunLemmas
+pub mod CutLemmas

@@ -1,0 +1,151 @@
+//! A text, line by line.
+
+ghost use Rattle.std.specs.Prelude.{◌≡◌, ◌-◌, ◌^◌, ◌<◌, length, IfOk, IfErr};
+ghost use Rattle.std.specs.Str as str_spec;
+ghost use Rattle.ct_yaml.specs.Gives.{Gives};
+ghost use Rattle.ct_yaml.specs.Run as spec;
+ghost use Rattle.ct_yaml.specs.Stack as stack;
+ghost use Rattle.ct_yaml.specs.declared.node.Node as declared;
+ghost use Rattle.ct_yaml.specs.Text.{text_lines, Spells, IsRefused};
+
+use crate::chars::{Unspelled, is_blank_line, is_marker};
+use crate::lines::marks;
+use crate::node::Node;
+use crate::stack::OpenBlocks;
+use bstr::ByteSlice;
+use ct_base::{Fail, Mem, Out};
+use std::alloc::Global;
+use std::str;
+use thiserror::Error;
+
+/// A text that no node spells, by the line from which on no text begins so, or else its last.
+#[derive(Clone, Copy, Debug, PartialEq, Eq, Error)]
+#[error("the text is outside the YAML profile")]
+pub struct YamlFault {
+    pub line: u32,
+}
+
+/// Which lines may come.
+#[derive(Clone, Copy, Debug, PartialEq, Eq)]
+pub enum Phase {
+    /// None that counts has come: `---` may.
+    Start,
+    /// A line of the tree, or `...`.
+    Body,
+    /// `...` has come: blank lines and comments only.
+    Ended,
+}
+
+/// A text that is being read.
+#[derive(Debug, Drop)]
+pub struct Reader {
+    pub phase: Phase,
+    pub blocks: OpenBlocks,
+}
+
+impl Reader {
+    /// Before the first line.
+    fn new(alloc: Global) -> Reader
+        ensures { spec.place_of result ≡ spec.started }
+    {
+        Reader {
+            phase: Phase::Start,
+            blocks: OpenBlocks::new(alloc),
+        }
+    }
+
+    /// Reads a line of the tree.
+    fn body_line(&mut self, alloc: Global, line: &[u8]) -> Out<(), Unspelled>
+        ensures { Gives (λ _. spec.place_of self.new) result
+            (spec.body_step (stack.view self.old.blocks) line.now) }
+    {
+        let marks = marks(alloc, line)?;
+        self.blocks.steps(alloc, marks)?;
+        self.phase = Phase::Body;
+        Ok(())
+    }
+
+    /// Reads a line that counts.
+    fn other_line(&mut self, alloc: Global, line: &[u8]) -> Out<(), Unspelled>
+        ensures { Gives (λ _. spec.place_of self.new) result
+            (spec.other_step self.old.phase (stack.view self.old.blocks) line.now) }
+    {
+        match self.phase {
+            Phase::Ended => return Err(Fail::Fault(Unspelled)),
+            Phase::Start => {
+                if is_marker(b'-', line) {
+                    self.phase = Phase::Body;
+                    return Ok(());
+                }
+            }
+            Phase::Body => {}
+        }
+        if is_marker(b'.', line) {
+            self.phase = Phase::Ended;
+            return Ok(());
+        }
+        self.body_line(alloc, line)
+    }
+
+    /// Reads the next line.
+    #[tactic(auto, unfolding(crate::specs::Run::line_step))]
+    fn line(&mut self, alloc: Global, line: &[u8]) -> Out<(), Unspelled>
+        ensures { Gives (λ _. spec.place_of self.new) result (spec.line_step (spec.place_of self.old) line.now) }
+    {
+        if !is_utf8(line) {
+            return Err(Fail::Fault(Unspelled));
+        }
+        if is_blank_line(line) {
+            return Ok(());
+        }
+        self.other_line(alloc, line)
+    }
+}
+
+#[tactic(auto, using(crate::proofs::RunLemmas::utf8_rules))]
+fn is_utf8(line: &[u8]) -> bool
+    ensures { result ≡ str_spec.is_utf8 line.now }
+{
+    match str::from_utf8(line) {
+        Ok(_) => true,
+        Err(_) => false,
+    }
+}
+
+/// Reads all lines.
+#[tactic(auto, using(crate::proofs::CutLemmas::cut_lines), unfolding(crate::specs::Run::run_all))]
+fn read_lines(alloc: Global, bytes: &[u8]) -> Out<Node, YamlFault>
+    requires { length (text_lines bytes.now) < 2 ^ 32 - 1 }
+    ensures { spec.Comes result (spec.run_all (text_lines bytes.now)) }
+{
+    let mut reader = Reader::new(alloc);
+    let mut count: u32 = 0;
+    for line in bytes.lines() {
+        count += 1;
+        match reader.line(alloc, line) {
+            Ok(()) => {}
+            Err(Fail::OutOfMemory) => return Err(Fail::OutOfMemory),
+            Err(Fail::Fault(_)) => return Err(Fail::Fault(YamlFault { line: count })),
+        }
+    }
+    let node = reader.blocks.finish(alloc)?;
+    Ok(node)
+}
+
+/// The node that the text spells.
+///
+/// # Errors
+///
+/// A fault comes exactly where no node spells the text. Its line is the first, counted from 1, such that
+/// the lines up to it begin no text, and the last line where there is none.
+#[tactic(auto, using(crate::proofs::RunLemmas::answer_rules))]
+pub fn read(alloc: Global, bytes: &[u8]) -> Out<Node, YamlFault>
+    requires { length (text_lines bytes.now) < 2 ^ 32 - 1 }
+    ensures node { IfOk result (λ node. Spells (text_lines bytes.now) node) }
+    // At most one node spells a text.
+    ensures only { (first second : declared.Node) → Spells (text_lines bytes.now) first
+        → Spells (text_lines bytes.now) second → first ≡ second }
+    ensures refused { IfErr result (IsRefused (text_lines bytes.now)) }
+{
+    read_lines(alloc, bytes)
+}
