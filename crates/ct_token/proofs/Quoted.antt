@@ -1,5 +1,5 @@
 -- Character constants and string literals, with an encoding prefix or without one.
-use Rattle.std.proofs.Common.{◌≡◌, ◌≢◌, ℕ, suc, ◌+◌, ◌<◌, true, false, List, [], ◌∷◌, ◌++◌, length, get_or, take, drop, refl, sym, ap, ◌∙◌, subst, arith, add-one, length-append}
+use Rattle.std.proofs.Common.{◌≡◌, ◌≢◌, ℕ, suc, ◌+◌, ◌<◌, true, false, List, [], ◌∷◌, ◌++◌, length, get_or, take, drop, refl, sym, ap, ◌∙◌, subst, arith, length-append}
 use Rattle.std.specs.Prelude.{All}
 use Rattle.std.specs.List.{AllByRecursion, prefix_len}
 use Rattle.std.proofs.lemmas.List.{append-nil, append_assoc, length-take, take_more}
@@ -110,7 +110,7 @@ abbrev pub IsUnquotedBehind : ℕ → List ℕ → Type 0
 IsUnquotedBehind quote rest =
     (prefix more after : List ℕ) → is_prefix quote prefix ≡ true → rest ≡ more ++ after → (IsToken Char (prefix ++ (quote ∷ more)) → ⊥) × (IsToken Text (prefix ++ (quote ∷ more)) → ⊥)
 
--- so where what begins behind the quote is quoted for neither kind
+-- where what stands behind the quote is closed for neither kind
 unquoted_from : (quote : ℕ) (rest : List ℕ) → is_name_byte quote ≡ false → ((plain after : List ℕ) → quote ≡ 39 → plain ≢ [] → rest ≡ plain ++ 39 ∷ [] ++ after → All (IsPlainBetween 39) plain → ⊥) → ((plain after : List ℕ) → quote ≡ 34 → rest ≡ plain ++ 34 ∷ [] ++ after → All (IsPlainBetween 34) plain → ⊥) → IsUnquotedBehind quote rest
 unquoted_from quote rest apart char text prefix more after is e = (
   λ h. let behind = quoted_behind quote 39 prefix h.0 more apart refl (prefix_leads quote prefix is) h.2 in
@@ -146,6 +146,11 @@ empty_unquoted quote rest count is none h =
     not_empty [] after some all quote = some refl
     not_empty (p ∷ ps) after some all quote = all.0.0 quote
 
+-- the bytes of a name
+name_leads : (first : ℕ) (rest name : List ℕ) → is_nondigit first ≡ true → name ≡ take (prefix_len is_name_byte rest) rest → Leads (first ∷ name)
+name_leads first rest name nondigit front =
+    (nondigit, recursion_from_All NameByte name (subst (All NameByte) (sym front) (prefix_passes is_name_byte rest)))
+
 -- a name behind which nothing stands
 pub alone_unquoted : (first : ℕ) (rest name behind : List ℕ) → is_nondigit first ≡ true → name ≡ take (prefix_len is_name_byte rest) rest → rest ≡ name ++ behind → behind ≡ [] → IsUnquoted first rest
 alone_unquoted first rest name behind nondigit front parts none more after e = (
@@ -154,8 +159,7 @@ alone_unquoted first rest name behind nondigit front parts none more after e = (
 )
   where
     leads : Leads (first ∷ name)
-    leads =
-        (nondigit, recursion_from_All NameByte name (subst (All NameByte) (sym front) (prefix_passes is_name_byte rest)))
+    leads = name_leads first rest name nondigit front
 
     whole : (more ++ after) ≡ name
     whole = sym e ∙ parts ∙ ap (λ l. name ++ l) none ∙ append-nil name
@@ -173,8 +177,7 @@ name_unquoted first rest name inside quote nondigit front apart parts other more
 )
   where
     leads : Leads (first ∷ name)
-    leads =
-        (nondigit, recursion_from_All NameByte name (subst (All NameByte) (sym front) (prefix_passes is_name_byte rest)))
+    leads = name_leads first rest name nondigit front
 
     never : (mark : ℕ) (plain : List ℕ) → is_name_byte mark ≡ false → IsQuoted mark plain (first ∷ more) → ⊥
     never mark plain apart' h =
@@ -195,8 +198,7 @@ prefix_unquoted first rest name inside quote nondigit front apart parts is unquo
 )
   where
     leads : Leads (first ∷ name)
-    leads =
-        (nondigit, recursion_from_All NameByte name (subst (All NameByte) (sym front) (prefix_passes is_name_byte rest)))
+    leads = name_leads first rest name nondigit front
 
     behind : (mark : ℕ) (plain : List ℕ) → is_name_byte mark ≡ false → IsQuoted mark plain (first ∷ more) → (inner : List ℕ) × (first ∷ more ≡ (first ∷ name) ++ (quote ∷ inner)) × (inside ≡ inner ++ after)
     behind mark plain apart' h =

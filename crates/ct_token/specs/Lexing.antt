@@ -63,15 +63,15 @@ is_number (first ∷ second ∷ bytes) =
 abbrev pub IsPlainBetween : ℕ → ℕ → Type 0
 IsPlainBetween quote byte = (byte ≢ quote) × (byte ≢ 92) × (byte ≢ 10)
 
--- an encoding prefix, which may stand before a quote: `L`, `u` or `U`, and `u8` before a string literal
--- alone; none is one too (6.4.4.4, 6.4.5)
+-- an encoding prefix before a quote, or none: `L`, `u` or `U`, and before a string literal also `u8`
+-- (6.4.4.4, 6.4.5)
 abbrev pub is_prefix : ℕ → List ℕ → Bool
 is_prefix quote [] = true
 is_prefix quote (byte ∷ []) = (byte == 76) || (byte == 117) || (byte == 85)
 is_prefix quote (byte ∷ digit ∷ []) = (quote == 34) && (byte == 117) && (digit == 56)
 is_prefix quote (byte ∷ digit ∷ next ∷ bytes) = false
 
--- an encoding prefix, and plain bytes between two quotes
+-- plain bytes between two quotes, behind an encoding prefix or none
 abbrev pub IsQuoted : ℕ → List ℕ → List ℕ → Type 0
 IsQuoted quote plain text =
     (prefix : List ℕ) × IsTrue (is_prefix quote prefix) × (text ≡ prefix ++ (quote ∷ plain ++ quote ∷ [])) × All (IsPlainBetween quote) plain
