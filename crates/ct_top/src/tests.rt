@@ -79,13 +79,18 @@ fn compare_file(
 
 #[test]
 fn projects_give_their_report_or_the_line_of_their_refusal(rt: HostRuntime) -> Result<(), Fail> {
-    let rows: [(&[File], Status, &[u8]); 7] = [
+    let rows: [(&[File], Status, &[u8]); 8] = [
         (
             &[("project.yml", b""), ("test/test_a.c", WORKED)],
             Status::Passed,
             WORKED_REPORT,
         ),
         (&[("project.yml", b"")], Status::Passed, NO_TESTS),
+        (
+            &[("project.yml", b""), ("test", b"int x;")],
+            Status::Passed,
+            NO_TESTS,
+        ),
         (
             &[("test/test_a.c", WORKED)],
             Status::Refused,
