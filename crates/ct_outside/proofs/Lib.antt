@@ -1,4 +1,6 @@
 mod ListingLemmas
+mod MatchingLemmas
 mod NamedLemmas
 mod PathLemmas
+mod PathsLemmas
 mod StoredLemmas

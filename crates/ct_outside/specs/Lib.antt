@@ -1,6 +1,9 @@
 pub mod Counts
 pub mod Files
+pub mod Matching
+pub mod Paths
 pub mod SinkState
+pub mod Skipping
 pub mod Stored
 pub mod Taken
 pub mod TreeState

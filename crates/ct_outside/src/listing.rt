@@ -68,8 +68,8 @@ fn has_entry(entries: &[Entry], name: &str, folder: bool) -> bool
     entries.iter().any(|entry| entry.folder == folder && entry.name.as_str() == name)
 }
 
-/// The rest of a path that lies below a folder.
-fn rest_below<'a>(folder: &str, path: &'a str) -> Option<&'a str>
+/// The rest of a path that lies below a folder, and None exactly where it lies elsewhere.
+pub fn rest_below<'a>(folder: &str, path: &'a str) -> Option<&'a str>
     ensures { option_copied result ≡ rest_below folder.now path.now }
 {
     if folder.is_empty() {

@@ -1,6 +1,8 @@
 //! Tests of what no clause says: that the calls succeed, on small trees and texts worked out by hand.
 
-use crate::{Entry, Found, MemSink, MemTree, Sink, SinkFailed, Tree, TreeCall, TreeError};
+use crate::{
+    Entry, Found, MemSink, MemTree, Sink, SinkFailed, Tree, TreeCall, TreeError, join_path, matches,
+};
 use std::alloc::Global;
 use std::test::Fail;
 
@@ -226,5 +228,43 @@ fn the_named_write_of_a_sink_fails(rt: HostRuntime) -> Result<(), Fail> {
         assert_eq!(rt; sink.write(piece), answer);
     }
     assert_eq!(rt; sink.taken(), b"abcde".as_slice());
+    Ok(())
+}
+
+#[test]
+fn a_pattern_matches_folders_by_components(rt: HostRuntime) -> Result<(), Fail> {
+    let rows = [
+        ("test/**", "test", true),
+        ("test/**", "test/a/b", true),
+        ("test/**", "tests", false),
+        ("**/b", "a/a/b", true),
+        ("a/**/c/**/d", "a/c/b/c/d", true),
+        ("a/*", "a/b/c", false),
+        ("a/*b?", "a/xxbby", true),
+        ("", "", true),
+    ];
+    for (pattern, folder, answer) in rows {
+        assert_eq!(rt; matches(pattern, folder), answer, "{pattern} {folder}");
+    }
+    Ok(())
+}
+
+#[test]
+fn a_joined_path_has_no_dots(rt: HostRuntime) -> Result<(), Fail> {
+    let rows = [
+        ("", "x.h", Some("x.h")),
+        ("src/a", "../inc/./x.h", Some("src/inc/x.h")),
+        ("src", "..", Some("")),
+        ("src", "../../x.h", None),
+        ("src", "../../src/x.h", None),
+    ];
+    for (folder, rest, answer) in rows {
+        let path = join_path(rt.alloc(), folder, rest)?;
+        assert_eq!(rt;
+            path.as_ref().map(|path| path.as_str()),
+            answer,
+            "{folder} {rest}"
+        );
+    }
     Ok(())
 }
