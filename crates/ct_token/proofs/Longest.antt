@@ -1,17 +1,18 @@
 -- The longest token of each kind.
-use Rattle.std.proofs.Common.{◌≡◌, ℕ, zero, suc, Bool, true, false, ◌&&◌, ◌||◌, List, [], ◌∷◌, ◌++◌, get_or, take, drop, refl, sym, ap, ◌∙◌, subst, ◌⊎◌, inl, inr, ⊎_elim, arith}
+use Rattle.std.proofs.Common.{◌≡◌, ℕ, zero, suc, Bool, true, false, ◌&&◌, ◌||◌, List, [], ◌∷◌, ◌++◌, get_or, take, drop, refl, sym, ap, ◌∙◌, subst, ◌⊎◌, inl, inr, ⊎_elim}
 use Rattle.std.specs.Prelude.{◌==◌}
 use Rattle.std.specs.List.{AllByRecursion, prefix_len}
 use Rattle.std.proofs.lemmas.List.{append_assoc, take-append-drop}
 use Rattle.std.proofs.lemmas.List.Elements.{recursion_from_All}
-use Rattle.std.proofs.lemmas.Bool.Decides.{nat_tests}
-use Rattle.std.proofs.lemmas.Bool.{and_parts, and_from, or_cases, or_left, or_right, false≢true}
+use Rattle.std.proofs.lemmas.Bool.{and_parts, and_from, or_cases, or_left, or_right, or_parts, false≢true, eqb-true, ne_eqb}
 use Rattle.ct_base.specs.declared.lexical.TokenKind.{TokenKind}
 use Rattle.ct_base.specs.declared.lexical.TokenKind.TheVariants.{Name, Number, Char, Text, Punct, Other, Line}
-use Rattle.ct_token.specs.Lexing.{is_digit, is_nondigit, is_name_byte, is_blank, is_punctuator, is_other, is_exponent, is_sign, continues_number, all_continue, is_number, IsToken, IsLongest}
+use Rattle.ct_token.specs.Bytes.{is_digit, is_nondigit, is_name_byte, is_blank}
+use Rattle.ct_token.specs.Lexing.{is_punctuator, is_other, is_exponent, is_sign, continues_number, all_continue, is_number, IsToken, IsLongest}
 use Rattle.ct_token.proofs.Prefixes.{quoted_first}
 use Rattle.ct_token.proofs.Lists.{none_behind, prefix_stops, prefix_passes, all_at}
-use Rattle.ct_token.proofs.Bytes.{is_digit_or_dot, nondigit_no_number, digit_is_name_byte}
+use Rattle.ct_token.proofs.Bytes.{is_digit_or_dot, nondigit_no_number, digit_is_name_byte, no_name_byte, other_from}
+use Rattle.ct_token.proofs.Punctuators.{nondigit_no_mark, digit_no_mark, unmarked, dot_digit}
 
 -- what each kind of several bytes begins with
 pub name_first : (first : ℕ) (more : List ℕ) → IsToken Name (first ∷ more) → is_nondigit first ≡ true
@@ -40,13 +41,13 @@ number_first first (second ∷ bytes) h =
 one_byte : (first byte : ℕ) (bytes more : List ℕ) → first ∷ (bytes ++ more) ≡ byte ∷ [] → more ≡ []
 one_byte first byte bytes more e = let rest : bytes ++ more ≡ [] = cc in none_behind bytes more rest
 
--- a token is the longest where no longer one of the four kinds of several bytes begins at its place
+-- a token is the longest where no longer one of the five kinds of several bytes begins at its place
 abbrev NoLonger : TokenKind → ℕ → List ℕ → List ℕ → Type 0
 NoLonger kind first bytes after =
     (more rest : List ℕ) → after ≡ more ++ rest → IsToken kind (first ∷ (bytes ++ more)) → more ≡ []
 
-longest_from : (kind : TokenKind) (first : ℕ) (bytes after : List ℕ) → IsToken kind (first ∷ bytes) → NoLonger Name first bytes after → NoLonger Number first bytes after → NoLonger Char first bytes after → NoLonger Text first bytes after → IsLongest kind (first ∷ bytes) after
-longest_from kind first bytes after token name number char text =
+longest_from : (kind : TokenKind) (first : ℕ) (bytes after : List ℕ) → IsToken kind (first ∷ bytes) → NoLonger Name first bytes after → NoLonger Number first bytes after → NoLonger Char first bytes after → NoLonger Text first bytes after → NoLonger Punct first bytes after → IsLongest kind (first ∷ bytes) after
+longest_from kind first bytes after token name number char text mark =
     record {
       token = token;
       longest = λ other more rest e h.
@@ -55,7 +56,7 @@ longest_from kind first bytes after token name number char text =
             | Number ↦ λ h. number more rest e h
             | Char ↦ λ h. char more rest e h
             | Text ↦ λ h. text more rest e h
-            | Punct ↦ λ h. one_byte first h.0 bytes more h.1
+            | Punct ↦ λ h. mark more rest e h
             | Other ↦ λ h. one_byte first h.0 bytes more h.1
             | Line ↦ λ h. one_byte first 10 bytes more h
           ] h;
@@ -75,6 +76,18 @@ no_char first bytes after not_so apart more rest e h =
 no_text : (first : ℕ) (bytes after : List ℕ) → (first ≡ 34 → ⊥) → is_nondigit first ≡ false → NoLonger Text first bytes after
 no_text first bytes after not_so apart more rest e h =
     ⊎_elim (λ quote. absurd (not_so quote)) (λ letter. absurd (false≢true (sym apart ∙ letter))) (quoted_first 34 h.0 first (bytes ++ more) h.1)
+
+no_mark : (first : ℕ) (bytes after : List ℕ) → ((more : List ℕ) → is_punctuator (first ∷ (bytes ++ more)) ≡ false) → NoLonger Punct first bytes after
+no_mark first bytes after not_so more rest e h = absurd (false≢true (sym (not_so more) ∙ h))
+
+-- a number is no punctuator
+pub number_no_punctuator : (first : ℕ) (more : List ℕ) → is_number (first ∷ more) ≡ true → is_punctuator (first ∷ more) ≡ false
+number_no_punctuator first [] h = unmarked first [] (digit_no_mark first h)
+number_no_punctuator first (second ∷ bytes) h =
+    ⊎_elim
+    (λ digit. unmarked first (second ∷ bytes) (digit_no_mark first digit.0))
+    (λ dot. ap (λ b. is_punctuator (b ∷ second ∷ bytes)) (eqb-true first 46 dot.0) ∙ dot_digit second bytes dot.1)
+    (number_cases first second bytes h)
 
 -- a name stops before a byte that is no part of one
 longer_name : (first : ℕ) (rest : List ℕ) → NoLonger Name first (take (prefix_len is_name_byte rest) rest) (drop (prefix_len is_name_byte rest) rest)
@@ -103,6 +116,7 @@ longest_name first rest nondigit unquoted =
     (no_number first bytes after (nondigit_no_number first nondigit))
     (λ more left e h. absurd ((unquoted (bytes ++ more) left (front more left e)).0 h))
     (λ more left e h. absurd ((unquoted (bytes ++ more) left (front more left e)).1 h))
+    (no_mark first bytes after (λ more. unmarked first (bytes ++ more) (nondigit_no_mark first nondigit)))
 
 digit_continues : (before byte : ℕ) → is_digit byte ≡ true → continues_number before byte ≡ true
 digit_continues before byte h =
@@ -156,6 +170,19 @@ number_from first (second ∷ bytes) (suc count) h goes longest =
     (λ dot. or_right digits dotted (and_from ((first == 46) && is_digit second) (all_continue second more) (and_from (first == 46) (is_digit second) dot.0 dot.1) (and_parts (continues_number first second) (all_continue second more) goes).1))
     (begins_cases first second h)
 
+-- what goes on from a digit, or a dot and a digit, is no punctuator
+number_no_longer_mark : (first : ℕ) (rest : List ℕ) (count : ℕ) → begins first (get_or rest 0 0) ≡ true → all_continue first (take count rest) ≡ true → GoesNoFurther first rest count → NoLonger Punct first (take count rest) (drop count rest)
+number_no_longer_mark first rest count h goes longest =
+    no_mark first (take count rest) (drop count rest) (λ more. apart (take count rest) more (number_from first rest count h goes longest))
+  where
+    apart : (bytes more : List ℕ) → is_number (first ∷ bytes) ≡ true → is_punctuator (first ∷ (bytes ++ more)) ≡ false
+    apart [] more h = unmarked first more (digit_no_mark first h)
+    apart (second ∷ bytes) more h =
+        ⊎_elim
+        (λ digit. unmarked first (second ∷ (bytes ++ more)) (digit_no_mark first digit.0))
+        (λ dot. ap (λ b. is_punctuator (b ∷ second ∷ (bytes ++ more))) (eqb-true first 46 dot.0) ∙ dot_digit second (bytes ++ more) dot.1)
+        (number_cases first second bytes h)
+
 pub longest_number : (first : ℕ) (rest : List ℕ) (count : ℕ) → is_nondigit first ≡ false → begins first (get_or rest 0 0) ≡ true → all_continue first (take count rest) ≡ true → GoesNoFurther first rest count → IsLongest Number (first ∷ take count rest) (drop count rest)
 longest_number first rest count nondigit h goes longest =
     let bytes = take count rest in
@@ -167,26 +194,45 @@ longest_number first rest count nondigit h goes longest =
     (λ more rest e h. longest more rest e (number_goes_on first (bytes ++ more) h))
     (no_char first bytes after (λ e. false≢true (ap is_digit_or_dot (sym e) ∙ starts)) nondigit)
     (no_text first bytes after (λ e. false≢true (ap is_digit_or_dot (sym e) ∙ starts)) nondigit)
+    (number_no_longer_mark first rest count h goes longest)
 
 -- a byte that begins none of these is a token of its own
-pub other_byte : (first second : ℕ) → is_blank first ≡ false → is_nondigit first ≡ false → begins first second ≡ false → (first ≡ 10 → ⊥) → is_punctuator first ≡ false → is_other first ≡ true
-other_byte first second blank nondigit number line punctuator = grind (arith, nat_tests)
+pub other_byte : (first second : ℕ) → is_blank first ≡ false → is_nondigit first ≡ false → begins first second ≡ false → (first ≡ 10 → ⊥) → is_punctuator (first ∷ []) ≡ false → is_other first ≡ true
+other_byte first second blank nondigit number line punctuator = other_from first blank (no_name_byte first nondigit (or_parts (is_digit first) ((first == 46) && is_digit second) number).0) (ne_eqb first 10 line) punctuator
 
-no_number_begins : (first : ℕ) (after : List ℕ) → begins first (get_or after 0 0) ≡ false → NoLonger Number first [] after
-no_number_begins first after stop [] rest e h = refl
-no_number_begins first after stop (second ∷ bytes) rest e h =
-    let here : get_or after 0 0 ≡ second = ap (λ l. get_or l 0 0) e in
-    let stops : begins first second ≡ false = ap (begins first) (sym here) ∙ stop in
-    absurd (false≢true (sym stops ∙ ⊎_elim
-    (λ digit. or_left (is_digit first) ((first == 46) && is_digit second) digit.0)
-    (λ dot. or_right (is_digit first) ((first == 46) && is_digit second) (and_from (first == 46) (is_digit second) dot.0 dot.1))
-    (number_cases first second bytes h)))
+no_number_begins : (first : ℕ) (bytes after : List ℕ) → begins first (get_or (bytes ++ after) 0 0) ≡ false → NoLonger Number first bytes after
+no_number_begins first bytes after stop more rest e h = absurd (never (bytes ++ more) rest (append_assoc bytes more rest ∙ ap (λ l. bytes ++ l) (sym e)) h)
+  where
+    never : (text rest : List ℕ) → text ++ rest ≡ bytes ++ after → is_number (first ∷ text) ≡ true → ⊥
+    never [] rest e h = false≢true (sym (or_parts (is_digit first) ((first == 46) && is_digit (get_or (bytes ++ after) 0 0)) stop).0 ∙ h)
+    never (second ∷ text) rest e h =
+        let here : get_or (bytes ++ after) 0 0 ≡ second = ap (λ l. get_or l 0 0) (sym e) in
+        let stops : begins first second ≡ false = ap (begins first) (sym here) ∙ stop in
+        false≢true (sym stops ∙ ⊎_elim
+        (λ digit. or_left (is_digit first) ((first == 46) && is_digit second) digit.0)
+        (λ dot. or_right (is_digit first) ((first == 46) && is_digit second) (and_from (first == 46) (is_digit second) dot.0 dot.1))
+        (number_cases first second text h))
 
-pub longest_other : (first : ℕ) (rest : List ℕ) → is_other first ≡ true → is_nondigit first ≡ false → begins first (get_or rest 0 0) ≡ false → IsUnquoted first rest → IsLongest Other (first ∷ []) rest
-longest_other first rest other nondigit number unquoted =
+pub longest_other : (first : ℕ) (rest : List ℕ) → is_other first ≡ true → is_nondigit first ≡ false → begins first (get_or rest 0 0) ≡ false → IsUnquoted first rest → ((more after : List ℕ) → rest ≡ more ++ after → is_punctuator (first ∷ more) ≡ false) → IsLongest Other (first ∷ []) rest
+longest_other first rest other nondigit number unquoted unmarked =
     longest_from Other first [] rest
     (first, refl, other)
     (no_name first [] rest nondigit)
-    (no_number_begins first rest number)
+    (no_number_begins first [] rest number)
     (λ more after e h. absurd ((unquoted more after e).0 h))
     (λ more after e h. absurd ((unquoted more after e).1 h))
+    (λ more after e h. absurd (false≢true (sym (unmarked more after e) ∙ h)))
+
+-- a punctuator that is the longest of its kind
+pub longest_mark : (first : ℕ) (rest : List ℕ) (count : ℕ) → is_nondigit first ≡ false → begins first (get_or rest 0 0) ≡ false → IsUnquoted first rest → is_punctuator (first ∷ take count rest) ≡ true → NoLonger Punct first (take count rest) (drop count rest) → IsLongest Punct (first ∷ take count rest) (drop count rest)
+longest_mark first rest count nondigit number unquoted token longest =
+    let bytes = take count rest in
+    let after = drop count rest in
+    let front : (more left : List ℕ) → after ≡ more ++ left → rest ≡ bytes ++ more ++ left =
+    λ more left e. sym (take-append-drop count rest) ∙ ap (λ l. bytes ++ l) e ∙ sym (append_assoc bytes more left) in
+    longest_from Punct first bytes after token
+    (no_name first bytes after nondigit)
+    (no_number_begins first bytes after (ap (λ l. begins first (get_or l 0 0)) (take-append-drop count rest) ∙ number))
+    (λ more left e h. absurd ((unquoted (bytes ++ more) left (front more left e)).0 h))
+    (λ more left e h. absurd ((unquoted (bytes ++ more) left (front more left e)).1 h))
+    longest

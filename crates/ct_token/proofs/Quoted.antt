@@ -1,18 +1,21 @@
 -- Character constants and string literals, with an encoding prefix or without one.
 use Rattle.std.proofs.Common.{◌≡◌, ◌≢◌, ℕ, suc, ◌+◌, ◌<◌, true, false, List, [], ◌∷◌, ◌++◌, length, get_or, take, drop, refl, sym, ap, ◌∙◌, subst, arith, length-append}
 use Rattle.std.specs.Prelude.{All}
-use Rattle.std.specs.List.{AllByRecursion, prefix_len}
+use Rattle.std.specs.List.{prefix_len}
 use Rattle.std.proofs.lemmas.List.{append-nil, append_assoc, length-take, take_more}
 use Rattle.std.proofs.lemmas.List.Elements.{recursion_from_All}
 use Rattle.std.proofs.lemmas.Bool.{false≢true}
 use Rattle.std.proofs.Math.Seq.{take-append-add, drop-append-add}
 use Rattle.ct_base.specs.declared.lexical.TokenKind.{TokenKind}
 use Rattle.ct_base.specs.declared.lexical.TokenKind.TheVariants.{Name, Number, Char, Text, Punct, Other, Line}
-use Rattle.ct_token.specs.Lexing.{is_nondigit, is_name_byte, is_number, is_prefix, IsPlainBetween, IsQuoted, IsToken, IsLongest}
-use Rattle.ct_token.proofs.Lists.{first_unlike, prefix_stops, prefix_passes}
+use Rattle.ct_token.specs.Bytes.{is_nondigit, is_name_byte, is_quote}
+use Rattle.ct_token.specs.Lexing.{is_punctuator, is_number, is_prefix, is_inside, IsQuoted, IsToken, IsLongest}
+use Rattle.ct_token.proofs.Lists.{prefix_stops, prefix_passes}
 use Rattle.ct_token.proofs.Bytes.{is_digit_or_dot, nondigit_no_number}
 use Rattle.ct_token.proofs.Prefixes.{NameByte, Leads, prefix_leads, same_prefix, no_quote_in_name, quoted_behind}
 use Rattle.ct_token.proofs.Longest.{number_first, IsUnquoted}
+use Rattle.ct_token.proofs.Punctuators.{nondigit_no_mark, quote_no_mark, unmarked}
+use Rattle.ct_token.proofs.Inside.{same_inside}
 
 -- what follows a quoted text, behind the first of its quotes
 regroup : (quote : ℕ) (prefix plain more : List ℕ) → prefix ++ (quote ∷ plain ++ quote ∷ []) ++ more ≡ prefix ++ quote ∷ (plain ++ quote ∷ more)
@@ -29,20 +32,25 @@ no_number quote [] bytes leads apart h = false≢true (sym apart ∙ number_firs
 no_number quote (p ∷ ps) bytes leads apart h =
     false≢true (sym (nondigit_no_number p leads.0) ∙ number_first p (ps ++ quote ∷ bytes) h)
 
+no_mark : (quote : ℕ) (prefix bytes : List ℕ) → Leads prefix → is_quote quote ≡ true → is_punctuator (prefix ++ quote ∷ bytes) ≡ true → ⊥
+no_mark quote [] bytes leads is h = false≢true (sym (unmarked quote bytes (quote_no_mark quote is)) ∙ h)
+no_mark quote (p ∷ ps) bytes leads is h =
+    false≢true (sym (unmarked p (ps ++ quote ∷ bytes) (nondigit_no_mark p leads.0)) ∙ h)
+
 no_single : (quote byte : ℕ) (prefix plain more : List ℕ) → prefix ++ quote ∷ (plain ++ quote ∷ more) ≡ byte ∷ [] → ⊥
 no_single quote byte prefix plain more h =
     let e : length (prefix ++ quote ∷ (plain ++ quote ∷ more)) ≡ 1 = ap length h in
     omega (arith, e, length-append prefix (quote ∷ (plain ++ quote ∷ more)), length-append plain (quote ∷ more))
 
 -- and what has the same quotes ends at the same one
-no_longer : (quote : ℕ) (prefix plain plain' more : List ℕ) → is_name_byte quote ≡ false → Leads prefix → All (IsPlainBetween quote) plain → IsQuoted quote plain' (prefix ++ quote ∷ (plain ++ quote ∷ more)) → more ≡ []
-no_longer quote prefix plain plain' more apart leads all h =
-    let behind = quoted_behind quote quote prefix plain' (plain ++ quote ∷ more) apart apart leads h in
-    let same = first_unlike (IsPlainBetween quote) plain plain' quote quote more [] (recursion_from_All (IsPlainBetween quote) plain all) (recursion_from_All (IsPlainBetween quote) plain' h.3) (λ p. p.0 refl) (λ p. p.0 refl) behind.2 in
-    same.2
+no_longer : (quote : ℕ) (prefix inside inside' more : List ℕ) → is_quote quote ≡ true → is_name_byte quote ≡ false → Leads prefix → is_inside quote inside ≡ true → IsQuoted quote inside' (prefix ++ quote ∷ (inside ++ quote ∷ more)) → more ≡ []
+no_longer quote prefix inside inside' more is apart leads all h =
+    let behind = quoted_behind quote quote prefix inside' (inside ++ quote ∷ more) apart apart leads h in
+    let same = same_inside quote inside inside' more [] is all h.3 behind.2 in
+    same.1
 
-longest_quoted : (kind : TokenKind) (quote : ℕ) (prefix plain after : List ℕ) → is_name_byte quote ≡ false → is_digit_or_dot quote ≡ false → Leads prefix → IsToken kind (prefix ++ (quote ∷ plain ++ quote ∷ [])) → ((more : List ℕ) → IsToken Char (prefix ++ quote ∷ (plain ++ quote ∷ more)) → more ≡ []) → ((more : List ℕ) → IsToken Text (prefix ++ quote ∷ (plain ++ quote ∷ more)) → more ≡ []) → IsLongest kind (prefix ++ (quote ∷ plain ++ quote ∷ [])) after
-longest_quoted kind quote prefix plain after apart apart' leads token char text =
+longest_quoted : (kind : TokenKind) (quote : ℕ) (prefix plain after : List ℕ) → is_quote quote ≡ true → is_name_byte quote ≡ false → is_digit_or_dot quote ≡ false → Leads prefix → IsToken kind (prefix ++ (quote ∷ plain ++ quote ∷ [])) → ((more : List ℕ) → IsToken Char (prefix ++ quote ∷ (plain ++ quote ∷ more)) → more ≡ []) → ((more : List ℕ) → IsToken Text (prefix ++ quote ∷ (plain ++ quote ∷ more)) → more ≡ []) → IsLongest kind (prefix ++ (quote ∷ plain ++ quote ∷ [])) after
+longest_quoted kind quote prefix plain after is apart apart' leads token char text =
     record {
       token = token;
       longest = λ other more rest e h.
@@ -51,32 +59,32 @@ longest_quoted kind quote prefix plain after apart apart' leads token char text 
             | Number ↦ λ h. absurd (no_number quote prefix (plain ++ quote ∷ more) leads apart' h)
             | Char ↦ λ h. char more h
             | Text ↦ λ h. text more h
-            | Punct ↦ λ h. absurd (no_single quote h.0 prefix plain more h.1)
+            | Punct ↦ λ h. absurd (no_mark quote prefix (plain ++ quote ∷ more) leads is h)
             | Other ↦ λ h. absurd (no_single quote h.0 prefix plain more h.1)
             | Line ↦ λ h. absurd (no_single quote 10 prefix plain more h)
           ] (subst (IsToken other) (regroup quote prefix plain more) h);
     }
 
-quoted_char : (prefix plain after : List ℕ) → is_prefix 39 prefix ≡ true → plain ≢ [] → All (IsPlainBetween 39) plain → IsLongest Char (prefix ++ (39 ∷ plain ++ 39 ∷ [])) after
+quoted_char : (prefix plain after : List ℕ) → is_prefix 39 prefix ≡ true → plain ≢ [] → is_inside 39 plain ≡ true → IsLongest Char (prefix ++ (39 ∷ plain ++ 39 ∷ [])) after
 quoted_char prefix plain after is some all =
     let leads = prefix_leads 39 prefix is in
-    longest_quoted Char 39 prefix plain after refl refl leads
+    longest_quoted Char 39 prefix plain after refl refl refl leads
     (plain, some, (prefix, is, refl, all))
-    (λ more h. no_longer 39 prefix plain h.0 more refl leads all h.2)
+    (λ more h. no_longer 39 prefix plain h.0 more refl refl leads all h.2)
     (λ more h. let other = (quoted_behind 39 34 prefix h.0 (plain ++ 39 ∷ more) refl refl leads h.1).1 in absurd (omega (arith, other)))
 
-quoted_text : (prefix plain after : List ℕ) → is_prefix 34 prefix ≡ true → All (IsPlainBetween 34) plain → IsLongest Text (prefix ++ (34 ∷ plain ++ 34 ∷ [])) after
+quoted_text : (prefix plain after : List ℕ) → is_prefix 34 prefix ≡ true → is_inside 34 plain ≡ true → IsLongest Text (prefix ++ (34 ∷ plain ++ 34 ∷ [])) after
 quoted_text prefix plain after is all =
     let leads = prefix_leads 34 prefix is in
-    longest_quoted Text 34 prefix plain after refl refl leads
+    longest_quoted Text 34 prefix plain after refl refl refl leads
     (plain, (prefix, is, refl, all))
     (λ more h. let other = (quoted_behind 34 39 prefix h.0 (plain ++ 34 ∷ more) refl refl leads h.2).1 in absurd (omega (arith, other)))
-    (λ more h. no_longer 34 prefix plain h.0 more refl leads all h.1)
+    (λ more h. no_longer 34 prefix plain h.0 more refl refl leads all h.1)
 
--- plain bytes, and then the quote
+-- what may stand inside, and then the quote
 abbrev pub IsClosed : ℕ → List ℕ → ℕ → Type 0
 IsClosed quote rest count =
-    (count < length rest) × (get_or rest count 0 ≡ quote) × All (IsPlainBetween quote) (take count rest)
+    (count < length rest) × (get_or rest count 0 ≡ quote) × (is_inside quote (take count rest) ≡ true)
 
 -- behind each encoding prefix, the quote and so many bytes are the longest token
 abbrev pub IsLongestBehind : TokenKind → ℕ → List ℕ → ℕ → Type 0
@@ -111,7 +119,7 @@ IsUnquotedBehind quote rest =
     (prefix more after : List ℕ) → is_prefix quote prefix ≡ true → rest ≡ more ++ after → (IsToken Char (prefix ++ (quote ∷ more)) → ⊥) × (IsToken Text (prefix ++ (quote ∷ more)) → ⊥)
 
 -- where what stands behind the quote is closed for neither kind
-unquoted_from : (quote : ℕ) (rest : List ℕ) → is_name_byte quote ≡ false → ((plain after : List ℕ) → quote ≡ 39 → plain ≢ [] → rest ≡ plain ++ 39 ∷ [] ++ after → All (IsPlainBetween 39) plain → ⊥) → ((plain after : List ℕ) → quote ≡ 34 → rest ≡ plain ++ 34 ∷ [] ++ after → All (IsPlainBetween 34) plain → ⊥) → IsUnquotedBehind quote rest
+unquoted_from : (quote : ℕ) (rest : List ℕ) → is_name_byte quote ≡ false → ((plain after : List ℕ) → quote ≡ 39 → plain ≢ [] → rest ≡ plain ++ 39 ∷ [] ++ after → is_inside 39 plain ≡ true → ⊥) → ((plain after : List ℕ) → quote ≡ 34 → rest ≡ plain ++ 34 ∷ [] ++ after → is_inside 34 plain ≡ true → ⊥) → IsUnquotedBehind quote rest
 unquoted_from quote rest apart char text prefix more after is e = (
   λ h. let behind = quoted_behind quote 39 prefix h.0 more apart refl (prefix_leads quote prefix is) h.2 in
       char h.0 after behind.1 h.1 (e ∙ ap (λ l. l ++ after) behind.2) h.2.3,
@@ -125,26 +133,31 @@ other_unquoted quote rest apart text char =
     unquoted_from quote rest apart (λ plain after is some e all. char is) (λ plain after is e all. text is)
 
 -- a quote that is not closed
-pub open_unquoted : (quote : ℕ) (rest : List ℕ) → is_name_byte quote ≡ false → ((plain after : List ℕ) → rest ≡ plain ++ quote ∷ after → All (IsPlainBetween quote) plain → ⊥) → IsUnquotedBehind quote rest
+pub open_unquoted : (quote : ℕ) (rest : List ℕ) → is_name_byte quote ≡ false → ((plain after : List ℕ) → rest ≡ plain ++ quote ∷ after → is_inside quote plain ≡ true → ⊥) → IsUnquotedBehind quote rest
 open_unquoted quote rest apart unclosed =
     unquoted_from quote rest apart
     (λ plain after is some e all. never 39 is plain after e all)
     (λ plain after is e all. never 34 is plain after e all)
   where
-    never : (other : ℕ) → quote ≡ other → (plain after : List ℕ) → rest ≡ plain ++ other ∷ [] ++ after → All (IsPlainBetween other) plain → ⊥
+    never : (other : ℕ) → quote ≡ other → (plain after : List ℕ) → rest ≡ plain ++ other ∷ [] ++ after → is_inside other plain ≡ true → ⊥
     never other is plain after e all =
-        unclosed plain after (e ∙ append_assoc plain (other ∷ []) after ∙ ap (λ q. plain ++ q ∷ after) (sym is)) (subst (λ q. All (IsPlainBetween q) plain) (sym is) all)
+        unclosed plain after (e ∙ append_assoc plain (other ∷ []) after ∙ ap (λ q. plain ++ q ∷ after) (sym is)) (ap (λ q. is_inside q plain) is ∙ all)
 
 -- two of the quotes of a character constant with nothing between them
 pub empty_unquoted : (quote : ℕ) (rest : List ℕ) (count : ℕ) → 39 ≡ quote → count ≡ 0 → IsClosed quote rest count → IsUnquotedBehind quote rest
 empty_unquoted quote rest count is none h =
     unquoted_from quote rest (ap is_name_byte (sym is))
-    (λ plain after same some e all. not_empty plain after some (recursion_from_All (IsPlainBetween 39) plain all) (ap (λ l. get_or l 0 0) (sym e) ∙ ap (λ n. get_or rest n 0) (sym none) ∙ h.1 ∙ sym is))
+    (λ plain after same some e all. not_empty plain after some all (ap (λ l. get_or l 0 0) (sym e) ∙ ap (λ n. get_or rest n 0) (sym none) ∙ h.1 ∙ sym is))
     (λ plain after same e all. omega (arith, is, same))
   where
-    not_empty : (plain after : List ℕ) → plain ≢ [] → AllByRecursion (IsPlainBetween 39) plain → get_or (plain ++ 39 ∷ [] ++ after) 0 0 ≡ 39 → ⊥
+    no_quote : (ps : List ℕ) → is_inside 39 (39 ∷ ps) ≡ false
+    no_quote [] = refl
+    no_quote (p ∷ ps) = refl
+
+    not_empty : (plain after : List ℕ) → plain ≢ [] → is_inside 39 plain ≡ true → get_or (plain ++ 39 ∷ [] ++ after) 0 0 ≡ 39 → ⊥
     not_empty [] after some all quote = some refl
-    not_empty (p ∷ ps) after some all quote = all.0.0 quote
+    not_empty (p ∷ ps) after some all quote =
+        false≢true (sym (no_quote ps) ∙ ap (λ b. is_inside 39 (b ∷ ps)) (sym quote) ∙ all)
 
 -- the bytes of a name
 name_leads : (first : ℕ) (rest name : List ℕ) → is_nondigit first ≡ true → name ≡ take (prefix_len is_name_byte rest) rest → Leads (first ∷ name)

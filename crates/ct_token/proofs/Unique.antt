@@ -1,141 +1,17 @@
--- A text has one list of tokens.
-use Rattle.std.proofs.Common.{◌≡◌, ℕ, ◌+◌, true, false, not, cond, List, [], ◌∷◌, ◌++◌, refl, sym, ap, ◌∙◌, subst, ◌⊎◌, inl, inr, ⊎_elim, arith}
-use Rattle.std.specs.Prelude.{◌==◌, All, IsTrue}
+-- A text has one list of pieces.
+use Rattle.std.proofs.Common.{◌≡◌, ℕ, true, false, List, [], ◌∷◌, ◌++◌, length, refl, sym, ap, ◌∙◌, subst, ◌⊎◌, inl, inr, ⊎_elim, arith}
+use Rattle.std.specs.Prelude.{slice_index, Result, Ok, Err, IfOk}
 use Rattle.std.specs.List.{AllByRecursion}
 use Rattle.std.proofs.lemmas.List.{append-nil, append_assoc, append_cancel_left}
 use Rattle.std.proofs.lemmas.List.Elements.{recursion_from_All}
-use Rattle.std.proofs.lemmas.Bool.{false≢true, eqb-true}
-use Rattle.std.proofs.lemmas.Bool.Decides.{nat_tests}
+use Rattle.std.proofs.lemmas.Bool.{false≢true}
 use Rattle.ct_base.specs.declared.lexical.Token.{Token}
 use Rattle.ct_base.specs.declared.lexical.TokenKind.{TokenKind}
-use Rattle.ct_base.specs.declared.lexical.TokenKind.TheVariants.{Name, Number, Char, Text, Punct, Other, Line}
-use Rattle.ct_token.specs.Lexing.{is_digit, is_nondigit, is_name_byte, is_newline, is_blank, is_punctuator, is_other, is_number, is_none, newlines, IsToken, IsLongest, StandsAt, Reads}
-use Rattle.ct_token.proofs.Lists.{first_unlike, all_at}
-use Rattle.ct_token.proofs.Bytes.{is_digit_or_dot}
-use Rattle.ct_token.proofs.Longest.{number_cases, number_first, name_first}
-use Rattle.ct_token.proofs.Prefixes.{NameByte, Leads, prefix_leads, name_bytes, quoted_first}
-
--- each token has a first byte
-quoted_starts : (quote : ℕ) (prefix bytes : List ℕ) → (first : ℕ) × (more : List ℕ) × (prefix ++ quote ∷ bytes ≡ first ∷ more)
-quoted_starts quote [] bytes = (quote, bytes, refl)
-quoted_starts quote (p ∷ ps) bytes = (p, ps ++ quote ∷ bytes, refl)
-
-starts : (kind : TokenKind) (text : List ℕ) → IsToken kind text → (first : ℕ) × (more : List ℕ) × (text ≡ first ∷ more)
-starts Name text h = (h.0, h.1, h.2)
-starts Number [] h = absurd (false≢true h)
-starts Number (first ∷ more) h = (first, more, refl)
-starts Char text h =
-    let start = quoted_starts 39 h.2.0 (h.0 ++ 39 ∷ []) in (start.0, start.1, h.2.2 ∙ start.2)
-starts Text text h =
-    let start = quoted_starts 34 h.1.0 (h.0 ++ 34 ∷ []) in (start.0, start.1, h.1.2 ∙ start.2)
-starts Punct text h = (h.0, [], h.1)
-starts Other text h = (h.0, [], h.1)
-starts Line text h = (10, [], h)
-
-nondigit_no_blank : (b : ℕ) → is_nondigit b ≡ true → is_blank b ≡ false
-nondigit_no_blank b h = grind (arith, nat_tests)
-
-digit_or_dot_no_blank : (b : ℕ) → is_digit_or_dot b ≡ true → is_blank b ≡ false
-digit_or_dot_no_blank b h = grind (arith, nat_tests)
-
-punctuator_no_blank : (b : ℕ) → is_punctuator b ≡ true → is_blank b ≡ false
-punctuator_no_blank b h = grind (arith, nat_tests)
-
-other_no_blank : (b : ℕ) → is_other b ≡ true → is_blank b ≡ false
-other_no_blank b h = grind (arith, nat_tests)
-
-single_first : (first byte : ℕ) (more : List ℕ) → first ∷ more ≡ byte ∷ [] → byte ≡ first
-single_first first byte more e = cc
-
--- which is not white space
-not_blank : (kind : TokenKind) (first : ℕ) (more : List ℕ) → IsToken kind (first ∷ more) → is_blank first ≡ false
-not_blank Name first more h = nondigit_no_blank first (name_first first more h)
-not_blank Number first more h = digit_or_dot_no_blank first (number_first first more h)
-not_blank Char first more h =
-    ⊎_elim (λ quote. ap is_blank quote) (λ letter. nondigit_no_blank first letter) (quoted_first 39 h.0 first more h.2)
-not_blank Text first more h =
-    ⊎_elim (λ quote. ap is_blank quote) (λ letter. nondigit_no_blank first letter) (quoted_first 34 h.0 first more h.1)
-not_blank Punct first more h = ap is_blank (sym (single_first first h.0 more h.1)) ∙ punctuator_no_blank h.0 h.2
-not_blank Other first more h = ap is_blank (sym (single_first first h.0 more h.1)) ∙ other_no_blank h.0 h.2
-not_blank Line first more h = ap is_blank (sym (single_first first 10 more h))
-
--- the kind of a name or of what is quoted, by the first of the quotes
-abbrev kind_by_quote : List ℕ → TokenKind
-kind_by_quote [] = Name
-kind_by_quote (byte ∷ bytes) = cond (byte == 39) Char (cond (byte == 34) Text (kind_by_quote bytes))
-
--- the kind, by the first byte and what more follow it
-abbrev kind_alone : ℕ → List ℕ → TokenKind
-kind_alone first [] = cond (is_nondigit first) Name Other
-kind_alone first (byte ∷ bytes) = cond (first == 46) Number (kind_by_quote (first ∷ byte ∷ bytes))
-
-abbrev kind_at : ℕ → List ℕ → TokenKind
-kind_at first more =
-    cond (is_digit first) Number (cond (is_newline first) Line (cond (is_punctuator first) Punct (kind_alone first more)))
-
-digit_kind : (first : ℕ) (more : List ℕ) → is_digit first ≡ true → kind_at first more ≡ Number
-digit_kind first more h = grind (arith, nat_tests)
-
-punctuator_kind : (first : ℕ) → is_punctuator first ≡ true → kind_at first [] ≡ Punct
-punctuator_kind first h = grind (arith, nat_tests)
-
-other_kind : (first : ℕ) → is_other first ≡ true → kind_at first [] ≡ Other
-other_kind first h = grind (arith, nat_tests)
-
-nondigit_kind : (first : ℕ) (more : List ℕ) → is_nondigit first ≡ true → kind_at first more ≡ kind_by_quote (first ∷ more)
-nondigit_kind first [] h = grind (arith, nat_tests)
-nondigit_kind first (byte ∷ bytes) h = grind (arith, nat_tests)
-
-name_byte_goes_on : (byte : ℕ) (bytes : List ℕ) → is_name_byte byte ≡ true → kind_by_quote (byte ∷ bytes) ≡ kind_by_quote bytes
-name_byte_goes_on byte bytes h = grind (arith, nat_tests)
-
--- the bytes of a name hold no quote
-goes_on : (name bytes : List ℕ) → AllByRecursion NameByte name → kind_by_quote (name ++ bytes) ≡ kind_by_quote bytes
-goes_on [] bytes all = refl
-goes_on (byte ∷ name) bytes all = name_byte_goes_on byte (name ++ bytes) all.0 ∙ goes_on name bytes all.1
-
-name_kind : (first : ℕ) (more : List ℕ) → is_nondigit first ≡ true → AllByRecursion NameByte more → kind_at first more ≡ Name
-name_kind first more h all =
-    nondigit_kind first more h ∙ ap kind_by_quote (sym (append-nil (first ∷ more))) ∙ goes_on (first ∷ more) [] (name_bytes (first ∷ more) (h, all))
-
-number_kind : (first : ℕ) (more : List ℕ) → is_number (first ∷ more) ≡ true → kind_at first more ≡ Number
-number_kind first [] h = digit_kind first [] h
-number_kind first (second ∷ bytes) h =
-    ⊎_elim
-    (λ digit. digit_kind first (second ∷ bytes) digit.0)
-    (λ dot. ap (λ b. kind_at b (second ∷ bytes)) (eqb-true first 46 dot.0))
-    (number_cases first second bytes h)
-
--- the kind of a list that has a first byte
-abbrev kind_of : List ℕ → TokenKind
-kind_of [] = Other
-kind_of (first ∷ more) = kind_at first more
-
-char_kind : (plain : List ℕ) → kind_at 39 (plain ++ 39 ∷ []) ≡ Char
-char_kind [] = refl
-char_kind (byte ∷ bytes) = refl
-
-text_kind : (plain : List ℕ) → kind_at 34 (plain ++ 34 ∷ []) ≡ Text
-text_kind [] = refl
-text_kind (byte ∷ bytes) = refl
-
--- a prefix leaves the kind as it is
-prefixed_kind : (quote : ℕ) (prefix bytes : List ℕ) → Leads prefix → kind_at quote bytes ≡ kind_by_quote (quote ∷ bytes) → kind_of (prefix ++ quote ∷ bytes) ≡ kind_by_quote (quote ∷ bytes)
-prefixed_kind quote [] bytes leads bare = bare
-prefixed_kind quote (p ∷ ps) bytes leads bare =
-    nondigit_kind p (ps ++ quote ∷ bytes) leads.0 ∙ goes_on (p ∷ ps) (quote ∷ bytes) (name_bytes (p ∷ ps) leads)
-
-kind_is : (kind : TokenKind) (text : List ℕ) → IsToken kind text → kind_of text ≡ kind
-kind_is Name text h = ap kind_of h.2 ∙ name_kind h.0 h.1 h.3 (recursion_from_All NameByte h.1 h.4)
-kind_is Number [] h = absurd (false≢true h)
-kind_is Number (first ∷ more) h = number_kind first more h
-kind_is Char text h =
-    ap kind_of h.2.2 ∙ prefixed_kind 39 h.2.0 (h.0 ++ 39 ∷ []) (prefix_leads 39 h.2.0 h.2.1) (char_kind h.0)
-kind_is Text text h =
-    ap kind_of h.1.2 ∙ prefixed_kind 34 h.1.0 (h.0 ++ 34 ∷ []) (prefix_leads 34 h.1.0 h.1.1) (text_kind h.0)
-kind_is Punct text h = ap kind_of h.1 ∙ punctuator_kind h.0 h.2
-kind_is Other text h = ap kind_of h.1 ∙ other_kind h.0 h.2
-kind_is Line text h = ap kind_of h
+use Rattle.ct_token.specs.Bytes.{is_newline, is_blank}
+use Rattle.ct_token.specs.Lines.{joined_bytes, joined_lines}
+use Rattle.ct_token.specs.Lexing.{IsToken, IsLongest, HasNoClose, begins_comment, ends_line, Piece, Blank, BlockComment, LineComment, Word, bytes_of, IsPiece, spelled, ArePieces, tokens_of, AreTokens, IsOpenAt, IsTokenization, LeavesOpen}
+use Rattle.ct_token.proofs.Comments.{no_close_in_tail}
+use Rattle.ct_token.proofs.Telling.{starts, not_blank, same_kind}
 
 -- of two fronts of a list one is a front of the other
 nested : (xs ys us vs : List ℕ) → xs ++ us ≡ ys ++ vs → ((more : List ℕ) × (ys ≡ xs ++ more) × (us ≡ more ++ vs)) ⊎ ((more : List ℕ) × (xs ≡ ys ++ more) × (vs ≡ more ++ us))
@@ -161,76 +37,170 @@ same_text k l s t u v one other e =
     h.1 ∙ ap (λ m. t ++ m) none ∙ append-nil t)
     (nested s t u v e)
 
-same_token : (t u : Token) → t.kind ≡ u.kind → t.text ≡ u.text → t.span.file ≡ u.span.file → t.span.line ≡ u.span.line → t.spaced ≡ u.spaced → t ≡ u
-same_token t u kind text file line spaced =
-    λ i. record {
-      kind = kind i;
-      text = text i;
-      span = record { file = file i; line = line i };
-      spaced = spaced i;
-    }
+slash_apart : ◌≡◌ {A = ℕ} 47 42 → ⊥
+slash_apart e = omega (arith, e)
 
-abbrev Blanks : List ℕ → Type 0
-Blanks bytes = All (λ byte. IsTrue (is_blank byte)) bytes
+close_begins : (y z : ℕ) (q u : List ℕ) → HasNoClose (y ∷ z ∷ q) → y ≡ 42 → z ≡ 47 → ⊥
+close_begins y z q u none star slash = none [] q (λ i. star i ∷ slash i ∷ q)
 
--- no token stands in white space
-no_token : (file : ℕ) (before text : List ℕ) (t : Token) (ts : List Token) → Blanks text → Reads file before text (t ∷ ts) → ⊥
-no_token file before text t ts blank reads =
-    let standing = reads.3 in
-    let token = standing.maximal.token in
-    let start = starts t.kind t.text token in
-    let parts : text ≡ reads.0 ++ start.0 ∷ (start.1 ++ reads.1) =
-    reads.2 ∙ append_assoc reads.0 t.text reads.1 ∙ ap (λ l. reads.0 ++ (l ++ reads.1)) start.2 in
-    let all = recursion_from_All (λ byte. IsTrue (is_blank byte)) (reads.0 ++ start.0 ∷ (start.1 ++ reads.1)) (subst Blanks parts blank) in
-    let yes = all_at (λ byte. IsTrue (is_blank byte)) reads.0 start.0 (start.1 ++ reads.1) all in
-    false≢true (sym (not_blank t.kind start.0 start.1 (subst (IsToken t.kind) start.2 token)) ∙ yes)
+closes_first : (y : ℕ) (q u v : List ℕ) → HasNoClose (y ∷ q ++ 42 ∷ []) → 42 ∷ 47 ∷ u ≡ y ∷ q ++ 42 ∷ 47 ∷ v → ⊥
+closes_first y [] u v none e =
+    let wrong : ◌≡◌ {A = ℕ} 47 42 = cc in slash_apart wrong
+closes_first y (z ∷ q) u v none e =
+    let star : y ≡ 42 = cc in
+    let slash : z ≡ 47 = cc in
+    close_begins y z (q ++ 42 ∷ []) u none star slash
 
--- what the first tokens of two lists for one text have in common
-pub record SameFirst (t u : Token) (blank blank' after after' : List ℕ) : Type 0 where
-  pub token : t ≡ u
-  pub blanks : blank ≡ blank'
-  pub afters : after ≡ after'
+-- and two comments end at one place
+same_block : (p q u v : List ℕ) → HasNoClose (p ++ 42 ∷ []) → HasNoClose (q ++ 42 ∷ []) → p ++ 42 ∷ 47 ∷ u ≡ q ++ 42 ∷ 47 ∷ v → (p ≡ q) × (u ≡ v)
+same_block [] [] u v hp hq e = (refl, cc)
+same_block [] (y ∷ q) u v hp hq e = absurd (closes_first y q u v hq e)
+same_block (x ∷ p) [] u v hp hq e = absurd (closes_first x p v u hp (sym e))
+same_block (x ∷ p) (y ∷ q) u v hp hq e =
+    let head : x ≡ y = cc in
+    let tail : p ++ 42 ∷ 47 ∷ u ≡ q ++ 42 ∷ 47 ∷ v = cc in
+    let rest = same_block p q u v (no_close_in_tail x (p ++ 42 ∷ []) hp) (no_close_in_tail y (q ++ 42 ∷ []) hq) tail in
+    ((λ i. head i ∷ rest.0 i), rest.1)
 
-same_first : (file : ℕ) (before text blank blank' after after' : List ℕ) (t u : Token) → text ≡ blank ++ t.text ++ after → text ≡ blank' ++ u.text ++ after' → StandsAt file before blank t after → StandsAt file before blank' u after' → SameFirst t u blank blank' after after'
-same_first file before text blank blank' after after' t u e e' at at' =
-    let token = at.maximal.token in
-    let token' = at'.maximal.token in
-    let start = starts t.kind t.text token in
-    let start' = starts u.kind u.text token' in
-    let regroup : (b w a : List ℕ) → b ++ w ++ a ≡ b ++ (w ++ a) = λ b w a. append_assoc b w a in
-    let parts : text ≡ blank ++ start.0 ∷ (start.1 ++ after) =
-    e ∙ regroup blank t.text after ∙ ap (λ l. blank ++ (l ++ after)) start.2 in
-    let parts' : text ≡ blank' ++ start'.0 ∷ (start'.1 ++ after') =
-    e' ∙ regroup blank' u.text after' ∙ ap (λ l. blank' ++ (l ++ after')) start'.2 in
-    let cut = first_unlike (λ byte. IsTrue (is_blank byte)) blank blank' start.0 start'.0 (start.1 ++ after) (start'.1 ++ after')
-    (recursion_from_All (λ byte. IsTrue (is_blank byte)) blank at.all_blank)
-    (recursion_from_All (λ byte. IsTrue (is_blank byte)) blank' at'.all_blank)
-    (λ yes. false≢true (sym (not_blank t.kind start.0 start.1 (subst (IsToken t.kind) start.2 token)) ∙ yes))
-    (λ yes. false≢true (sym (not_blank u.kind start'.0 start'.1 (subst (IsToken u.kind) start'.2 token')) ∙ yes))
-    (sym parts ∙ parts') in
-    let blanks : blank ≡ blank' = cut.0 in
-    let rests : t.text ++ after ≡ u.text ++ after' =
-    append_cancel_left blank (t.text ++ after) (u.text ++ after')
-    (sym (regroup blank t.text after) ∙ sym e ∙ e' ∙ regroup blank' u.text after' ∙ ap (λ b. b ++ (u.text ++ after')) (sym blanks)) in
-    let texts : t.text ≡ u.text = same_text t.kind u.kind t.text u.text after after' at.maximal at'.maximal rests in
-    let kinds : t.kind ≡ u.kind =
-    sym (kind_is t.kind t.text token) ∙ ap kind_of texts ∙ kind_is u.kind u.text token' in
-    record {
-      token = same_token t u kinds texts (at.same_file ∙ sym at'.same_file)
-          (at.line ∙ ap (λ b. 1 + newlines (before ++ b)) blanks ∙ sym at'.line)
-          (at.spaced ∙ ap (λ b. not (is_none b)) blanks ∙ sym at'.spaced);
-      blanks = blanks;
-      afters = append_cancel_left t.text after after' (rests ∙ ap (λ w. w ++ after') (sym texts));
-    }
+abbrev OnLine : ℕ → Type 0
+OnLine byte = is_newline byte ≡ false
 
-pub same_tokens : (file : ℕ) (a b : List Token) (before text : List ℕ) → Reads file before text a → Reads file before text b → a ≡ b
-same_tokens file [] [] before text one other = refl
-same_tokens file [] (u ∷ us) before text one other = absurd (no_token file before text u us one other)
-same_tokens file (t ∷ ts) [] before text one other = absurd (no_token file before text t ts other one)
-same_tokens file (t ∷ ts) (u ∷ us) before text one other =
-    let same = same_first file before text one.0 other.0 one.1 other.1 t u one.2 other.2 one.3 other.3 in
-    let befores : before ++ other.0 ++ u.text ≡ before ++ one.0 ++ t.text =
-    λ i. before ++ sym same.blanks i ++ (sym same.token i).text in
-    let moved = subst (λ b. Reads file b other.1 us) befores other.4 in
-    let tail = same_tokens file ts us (before ++ one.0 ++ t.text) one.1 one.4 (subst (λ l. Reads file (before ++ one.0 ++ t.text) l us) (sym same.afters) moved) in
-    λ i. same.token i ∷ tail i
+same_line : (p q u v : List ℕ) → AllByRecursion OnLine p → AllByRecursion OnLine q → ends_line u ≡ true → ends_line v ≡ true → p ++ u ≡ q ++ v → (p ≡ q) × (u ≡ v)
+same_line [] [] u v hp hq hu hv e = (refl, e)
+same_line [] (y ∷ q) u v hp hq hu hv e = absurd (false≢true (sym hq.0 ∙ ap ends_line (sym e) ∙ hu))
+same_line (x ∷ p) [] u v hp hq hu hv e = absurd (false≢true (sym hp.0 ∙ ap ends_line e ∙ hv))
+same_line (x ∷ p) (y ∷ q) u v hp hq hu hv e =
+    let head : x ≡ y = cc in
+    let tail : p ++ u ≡ q ++ v = cc in
+    let rest = same_line p q u v hp.1 hq.1 hu hv tail in
+    ((λ i. head i ∷ rest.0 i), rest.1)
+
+-- a token's first byte
+no_blank_word : (kind : TokenKind) (text u v : List ℕ) (byte : ℕ) → IsToken kind text → is_blank byte ≡ true → text ++ u ≡ byte ∷ v → ⊥
+no_blank_word kind text u v byte token blank e =
+    let start = starts kind text token in
+    let same : byte ≡ start.0 = first start.0 start.1 (sym e ∙ ap (λ l. l ++ u) start.2) in
+    false≢true (sym (not_blank kind start.0 start.1 (subst (IsToken kind) start.2 token)) ∙ ap is_blank (sym same) ∙ blank)
+  where
+    first : (f : ℕ) (m : List ℕ) → byte ∷ v ≡ f ∷ m ++ u → byte ≡ f
+    first f m e = cc
+
+no_comment_word : (text v : List ℕ) (second : ℕ) → begins_comment text ≡ false → text ≡ 47 ∷ second ∷ v → begins_comment (47 ∷ second ∷ v) ≡ true → ⊥
+no_comment_word text v second apart e h = false≢true (sym apart ∙ ap begins_comment e ∙ h)
+
+no_blank_comment : (byte : ℕ) (u v : List ℕ) → is_blank byte ≡ true → byte ∷ u ≡ 47 ∷ v → ⊥
+no_blank_comment byte u v blank e =
+    let same : byte ≡ 47 = cc in false≢true (sym (ap is_blank same) ∙ blank)
+
+-- at one place stands one piece
+pub same_piece : (p q : Piece) (u v : List ℕ) → IsPiece p u → IsPiece q v → bytes_of p ++ u ≡ bytes_of q ++ v → (p ≡ q) × (u ≡ v)
+same_piece (Blank b) (Blank c) u v hp hq e =
+    let same : b ≡ c = cc in (ap Blank same, cc)
+same_piece (Blank b) (BlockComment q) u v hp hq e = absurd (no_blank_comment b u (42 ∷ q ++ 42 ∷ 47 ∷ [] ++ v) hp e)
+same_piece (Blank b) (LineComment q) u v hp hq e = absurd (no_blank_comment b u (47 ∷ q ++ v) hp e)
+same_piece (Blank b) (Word k t) u v hp hq e = absurd (no_blank_word k t v u b hq.0.token hp (sym e))
+same_piece (BlockComment p) (Blank c) u v hp hq e = absurd (no_blank_comment c v (42 ∷ p ++ 42 ∷ 47 ∷ [] ++ u) hq (sym e))
+same_piece (BlockComment p) (BlockComment q) u v hp hq e =
+    let inner : p ++ 42 ∷ 47 ∷ u ≡ q ++ 42 ∷ 47 ∷ v =
+    sym (append_assoc p (42 ∷ 47 ∷ []) u) ∙ behind (p ++ 42 ∷ 47 ∷ [] ++ u) (q ++ 42 ∷ 47 ∷ [] ++ v) e ∙ append_assoc q (42 ∷ 47 ∷ []) v in
+    let same = same_block p q u v hp hq inner in
+    (ap BlockComment same.0, same.1)
+  where
+    behind : (x y : List ℕ) → 47 ∷ 42 ∷ x ≡ 47 ∷ 42 ∷ y → x ≡ y
+    behind x y e = cc
+same_piece (BlockComment p) (LineComment q) u v hp hq e = absurd (second (p ++ 42 ∷ 47 ∷ [] ++ u) (q ++ v) e)
+  where
+    second : (x y : List ℕ) → 47 ∷ 42 ∷ x ≡ 47 ∷ 47 ∷ y → ⊥
+    second x y e =
+        let wrong : ◌≡◌ {A = ℕ} 42 47 = cc in slash_apart (sym wrong)
+same_piece (BlockComment p) (Word k t) u v hp hq e = absurd (no_comment_word (t ++ v) (p ++ 42 ∷ 47 ∷ [] ++ u) 42 hq.1 (sym e) refl)
+same_piece (LineComment p) (Blank c) u v hp hq e = absurd (no_blank_comment c v (47 ∷ p ++ u) hq (sym e))
+same_piece (LineComment p) (BlockComment q) u v hp hq e = absurd (second (p ++ u) (q ++ 42 ∷ 47 ∷ [] ++ v) e)
+  where
+    second : (x y : List ℕ) → 47 ∷ 47 ∷ x ≡ 47 ∷ 42 ∷ y → ⊥
+    second x y e =
+        let wrong : ◌≡◌ {A = ℕ} 47 42 = cc in slash_apart wrong
+same_piece (LineComment p) (LineComment q) u v hp hq e =
+    let same = same_line p q u v (recursion_from_All OnLine p hp.0) (recursion_from_All OnLine q hq.0) hp.1 hq.1 (behind (p ++ u) (q ++ v) e) in
+    (ap LineComment same.0, same.1)
+  where
+    behind : (x y : List ℕ) → 47 ∷ 47 ∷ x ≡ 47 ∷ 47 ∷ y → x ≡ y
+    behind x y e = cc
+same_piece (LineComment p) (Word k t) u v hp hq e = absurd (no_comment_word (t ++ v) (p ++ u) 47 hq.1 (sym e) refl)
+same_piece (Word k t) (Blank c) u v hp hq e = absurd (no_blank_word k t u v c hp.0.token hq e)
+same_piece (Word k t) (BlockComment q) u v hp hq e = absurd (no_comment_word (t ++ u) (q ++ 42 ∷ 47 ∷ [] ++ v) 42 hp.1 e refl)
+same_piece (Word k t) (LineComment q) u v hp hq e = absurd (no_comment_word (t ++ u) (q ++ v) 47 hp.1 e refl)
+same_piece (Word k s) (Word l t) u v hp hq e =
+    let texts = same_text k l s t u v hp.0 hq.0 e in
+    let kinds = same_kind k l s t hp.0.token hq.0.token texts in
+    ((λ i. Word (kinds i) (texts i)), append_cancel_left s u v (e ∙ ap (λ w. w ++ v) (sym texts)))
+
+-- the end of the text, or a comment that is not closed
+abbrev pub IsEnd : List ℕ → Type 0
+IsEnd rest = (rest ≡ []) ⊎ ((inside : List ℕ) × (rest ≡ 47 ∷ 42 ∷ inside) × HasNoClose inside)
+
+-- where no piece stands
+no_piece : (rest : List ℕ) (p : Piece) (u : List ℕ) → IsEnd rest → IsPiece p u → rest ≡ bytes_of p ++ u → ⊥
+no_piece rest p u end is e = ⊎_elim (λ none. at_end p is (sym none ∙ e)) (λ opened. in_comment opened.0 opened.2 p is (sym opened.1 ∙ e)) end
+  where
+    at_end : (p : Piece) → IsPiece p u → [] ≡ bytes_of p ++ u → ⊥
+    at_end (Blank byte) is e = absurd cc
+    at_end (BlockComment inside) is e = absurd cc
+    at_end (LineComment inside) is e = absurd cc
+    at_end (Word kind text) is e =
+        let start = starts kind text is.0.token in
+        first start.0 start.1 (e ∙ ap (λ l. l ++ u) start.2)
+      where
+        first : (f : ℕ) (m : List ℕ) → [] ≡ f ∷ m ++ u → ⊥
+        first f m e = absurd cc
+
+    in_comment : (inside : List ℕ) → HasNoClose inside → (p : Piece) → IsPiece p u → 47 ∷ 42 ∷ inside ≡ bytes_of p ++ u → ⊥
+    in_comment inside none (Blank byte) is e = no_blank_comment byte u (42 ∷ inside) is (sym e)
+    in_comment inside none (BlockComment other) is e = none other u (behind inside (other ++ 42 ∷ 47 ∷ [] ++ u) e ∙ append_assoc other (42 ∷ 47 ∷ []) u)
+      where
+        behind : (x y : List ℕ) → 47 ∷ 42 ∷ x ≡ 47 ∷ 42 ∷ y → x ≡ y
+        behind x y e = cc
+    in_comment inside none (LineComment other) is e = second inside (other ++ u) e
+      where
+        second : (x y : List ℕ) → 47 ∷ 42 ∷ x ≡ 47 ∷ 47 ∷ y → ⊥
+        second x y e =
+            let wrong : ◌≡◌ {A = ℕ} 42 47 = cc in slash_apart (sym wrong)
+    in_comment inside none (Word kind text) is e = no_comment_word (text ++ u) inside 42 is.1 (sym e) refl
+
+pub same_pieces : (ps qs : List Piece) (r s : List ℕ) → IsEnd r → IsEnd s → ArePieces ps r → ArePieces qs s → spelled ps r ≡ spelled qs s → (ps ≡ qs) × (r ≡ s)
+same_pieces [] [] r s er es hp hq e = (refl, e)
+same_pieces [] (q ∷ qs) r s er es hp hq e = absurd (no_piece r q (spelled qs s) er hq.0 e)
+same_pieces (p ∷ ps) [] r s er es hp hq e = absurd (no_piece s p (spelled ps r) es hp.0 (sym e))
+same_pieces (p ∷ ps) (q ∷ qs) r s er es hp hq e =
+    let first = same_piece p q (spelled ps r) (spelled qs s) hp.0 hq.0 e in
+    let rest = same_pieces ps qs r s er es hp.1 hq.1 first.1 in
+    ((λ i. first.0 i ∷ rest.0 i), rest.1)
+
+-- so there is one list of tokens
+pub same_tokens : (file : ℕ) (text : List ℕ) (a b : List Token) → IsTokenization file text a → IsTokenization file text b → a ≡ b
+same_tokens file text a b one other =
+    let same = same_pieces one.0 other.0 [] [] (inl refl) (inl refl) one.2 other.2 (sym one.1 ∙ other.1) in
+    one.3 ∙ ap (tokens_of file (joined_lines text) 0 false) same.0 ∙ sym other.3
+
+pub same_open : (text : List ℕ) (a b : ℕ) → LeavesOpen text a → LeavesOpen text b → a ≡ b
+same_open text a b one other =
+    let same = same_pieces one.0 other.0 (47 ∷ 42 ∷ one.1) (47 ∷ 42 ∷ other.1) (inr (one.1, refl, one.4)) (inr (other.1, refl, other.4)) one.3 other.3 (sym one.2 ∙ other.2) in
+    one.5 ∙ ap (λ pieces. slice_index (joined_lines text) (length (spelled pieces []))) same.0 ∙ sym other.5
+
+-- or one comment that is not closed
+pub not_both : (file : ℕ) (bytes bytes' lines lines' : List ℕ) (tokens : List Token) (line : ℕ) → bytes ≡ bytes' → AreTokens file bytes lines tokens → IsOpenAt bytes' lines' line → ⊥
+not_both file bytes bytes' lines lines' tokens line e closed opened =
+    let same = same_pieces closed.0 opened.0 [] (47 ∷ 42 ∷ opened.1) (inl refl) (inr (opened.1, refl, opened.4)) closed.2 opened.3 (sym closed.1 ∙ e ∙ opened.2) in
+    none (opened.1) same.1
+  where
+    none : (l : List ℕ) → [] ≡ 47 ∷ 42 ∷ l → ⊥
+    none l e = absurd cc
+
+pub open_or_closed : (file : ℕ) (text : List ℕ) (tokens : List Token) (line : ℕ) → IsTokenization file text tokens → LeavesOpen text line → ⊥
+open_or_closed file text tokens line closed opened =
+    not_both file (joined_bytes text) (joined_bytes text) (joined_lines text) (joined_lines text) tokens line refl closed opened
+
+-- what follows for the value of a result
+pub for_value : {T E : Type 0} (r : Result T E) (P Q : T → Type 0) → ((t : T) → P t → Q t) → IfOk r P → IfOk r Q
+for_value (Ok t) P Q f h = f t h
+for_value (Err e) P Q f h = tt

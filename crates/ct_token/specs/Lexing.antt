@@ -1,39 +1,35 @@
--- Preprocessing tokens (C11 5.1.1.2 and 6.4): a text is a concatenation of white space and tokens, and
--- each token is the longest that begins at its place. No comment, no escape and no joined line is read yet.
-use Rattle.std.specs.Prelude.{◌≡◌, ◌≢◌, ℕ, ◌+◌, ◌==◌, ◌&&◌, ◌||◌, not, Bool, true, false, IsTrue, List, [], ◌∷◌, ◌++◌, All, nat_le, count_by}
+-- Preprocessing tokens (C11 5.1.1.2 and 6.4): the text with joined lines is cut into white space, comments and
+-- tokens, and each token is the longest that begins at its place.
+use Rattle.std.specs.Prelude.{◌≡◌, ◌≢◌, ℕ, ◌+◌, ◌==◌, ◌&&◌, ◌||◌, not, Bool, true, false, IsTrue, List, [], ◌∷◌, ◌++◌, All, length, slice_index, codes, if◌then◌else◌}
+use Rattle.std.specs.List.{list_any}
 use Rattle.ct_base.specs.declared.lexical.Token.{Token}
 use Rattle.ct_base.specs.declared.lexical.TokenKind.{TokenKind}
 use Rattle.ct_base.specs.declared.lexical.TokenKind.TheVariants.{Name, Number, Char, Text, Punct, Other, Line}
+use Rattle.ct_token.specs.Bytes.{is_digit, is_nondigit, is_name_byte, is_newline, is_blank}
+use Rattle.ct_token.specs.Constants.{is_plain}
+use Rattle.ct_token.specs.Lines.{joined_bytes, joined_lines}
 
-abbrev pub is_between : ℕ → ℕ → ℕ → Bool
-is_between low high byte = nat_le low byte && nat_le byte high
+-- one of these bytes
+abbrev pub is_one_of : List ℕ → ℕ → Bool
+is_one_of bytes byte = list_any (λ other. other == byte) bytes
 
-abbrev pub is_digit : ℕ → Bool
-is_digit byte = is_between 48 57 byte
+-- A punctuator (6.4.6), the digraphs among them: one byte; an operator and `=`, a byte twice, `->` or a digraph;
+-- `...`, `<<=` or `>>=`; `%:%:`.
+abbrev pub is_punctuator : List ℕ → Bool
+is_punctuator [] = false
+is_punctuator (a ∷ []) = is_one_of (codes "[](){}.&*+-~!/%<>^|?:;=,#") a
+is_punctuator (a ∷ b ∷ []) =
+    (is_one_of (codes "<>=!*/%+-&^|") a && (b == 61)) || (is_one_of (codes "+-<>&|#") a && (b == a))
+    || ((a == 45) && (b == 62)) || ((a == 60) && is_one_of (codes ":%") b) || ((a == 37) && is_one_of (codes ">:") b)
+    || ((a == 58) && (b == 62))
+is_punctuator (a ∷ b ∷ c ∷ []) =
+    ((a == 46) && (b == 46) && (c == 46)) || (is_one_of (codes "<>") a && (b == a) && (c == 61))
+is_punctuator (a ∷ b ∷ c ∷ d ∷ []) = (a == 37) && (b == 58) && (c == 37) && (d == 58)
+is_punctuator (a ∷ b ∷ c ∷ d ∷ e ∷ bytes) = false
 
--- a letter or `_` (6.4.2.1)
-abbrev pub is_nondigit : ℕ → Bool
-is_nondigit byte = is_between 65 90 byte || is_between 97 122 byte || (byte == 95)
-
-abbrev pub is_name_byte : ℕ → Bool
-is_name_byte byte = is_nondigit byte || is_digit byte
-
--- a new-line
-abbrev pub is_newline : ℕ → Bool
-is_newline byte = byte == 10
-
--- white space other than a new-line: a space, a tab, a vertical tab or a form feed (6.4p3)
-abbrev pub is_blank : ℕ → Bool
-is_blank byte = (byte == 32) || (byte == 9) || (byte == 11) || (byte == 12)
-
--- one of `( ) { } , ; #`
-abbrev pub is_punctuator : ℕ → Bool
-is_punctuator byte =
-    (byte == 40) || (byte == 41) || (byte == 123) || (byte == 125) || (byte == 44) || (byte == 59) || (byte == 35)
-
--- a byte that begins none of the other tokens; a quote or a dot may begin a longer one
+-- a byte that begins none of the other tokens; a quote may begin a longer one
 abbrev pub is_other : ℕ → Bool
-is_other byte = not (is_name_byte byte || is_newline byte || is_blank byte || is_punctuator byte)
+is_other byte = not (is_name_byte byte || is_newline byte || is_blank byte || is_punctuator (byte ∷ []))
 
 -- one of `e E p P`
 abbrev pub is_exponent : ℕ → Bool
@@ -59,9 +55,14 @@ is_number (first ∷ []) = is_digit first
 is_number (first ∷ second ∷ bytes) =
     (is_digit first && all_continue first (second ∷ bytes)) || ((first == 46) && is_digit second && all_continue second bytes)
 
--- a byte that stands for itself between these quotes: not the quote, a backslash or a new-line (6.4.4.4, 6.4.5)
-abbrev pub IsPlainBetween : ℕ → ℕ → Type 0
-IsPlainBetween quote byte = (byte ≢ quote) × (byte ≢ 92) × (byte ≢ 10)
+-- What may stand between these quotes: bytes that stand for themselves, and backslashes, each with the byte
+-- behind it, which is no new-line (6.4.4.4, 6.4.5).
+abbrev pub is_inside : ℕ → List ℕ → Bool
+is_inside quote [] = true
+is_inside quote (byte ∷ []) = is_plain quote byte
+is_inside quote (byte ∷ next ∷ bytes) =
+    if byte == 92 then not (is_newline next) && is_inside quote bytes
+    else is_plain quote byte && is_inside quote (next ∷ bytes)
 
 -- an encoding prefix before a quote, or none: `L`, `u` or `U`, and before a string literal also `u8`
 -- (6.4.4.4, 6.4.5)
@@ -71,18 +72,18 @@ is_prefix quote (byte ∷ []) = (byte == 76) || (byte == 117) || (byte == 85)
 is_prefix quote (byte ∷ digit ∷ []) = (quote == 34) && (byte == 117) && (digit == 56)
 is_prefix quote (byte ∷ digit ∷ next ∷ bytes) = false
 
--- plain bytes between two quotes, behind an encoding prefix or none
+-- two quotes with what may stand between them, behind an encoding prefix or none
 abbrev pub IsQuoted : ℕ → List ℕ → List ℕ → Type 0
-IsQuoted quote plain text =
-    (prefix : List ℕ) × IsTrue (is_prefix quote prefix) × (text ≡ prefix ++ (quote ∷ plain ++ quote ∷ [])) × All (IsPlainBetween quote) plain
+IsQuoted quote inside text =
+    (prefix : List ℕ) × IsTrue (is_prefix quote prefix) × (text ≡ prefix ++ (quote ∷ inside ++ quote ∷ [])) × IsTrue (is_inside quote inside)
 
--- What a token of each kind is, as a whole. A character constant has at least one character.
+-- What a token of each kind is, as a whole. A character constant has something between its quotes.
 abbrev pub IsToken : TokenKind → List ℕ → Type 0
 IsToken Name text = (first : ℕ) × (more : List ℕ) × (text ≡ first ∷ more) × IsTrue (is_nondigit first) × All (λ byte. IsTrue (is_name_byte byte)) more
 IsToken Number text = IsTrue (is_number text)
-IsToken Char text = (plain : List ℕ) × (plain ≢ []) × IsQuoted 39 plain text
-IsToken Text text = (plain : List ℕ) × IsQuoted 34 plain text
-IsToken Punct text = (byte : ℕ) × (text ≡ byte ∷ []) × IsTrue (is_punctuator byte)
+IsToken Char text = (inside : List ℕ) × (inside ≢ []) × IsQuoted 39 inside text
+IsToken Text text = (inside : List ℕ) × IsQuoted 34 inside text
+IsToken Punct text = IsTrue (is_punctuator text)
 IsToken Other text = (byte : ℕ) × (text ≡ byte ∷ []) × IsTrue (is_other byte)
 IsToken Line text = text ≡ 10 ∷ []
 
@@ -91,30 +92,79 @@ pub record IsLongest (kind : TokenKind) (text after : List ℕ) : Type 0 where
   pub token : IsToken kind text
   pub longest : (other : TokenKind) (more rest : List ℕ) → after ≡ more ++ rest → IsToken other (text ++ more) → more ≡ []
 
--- how many lines end in a text
-abbrev pub newlines : List ℕ → ℕ
-newlines text = count_by is_newline text
+-- `/*` or `//`
+abbrev pub begins_comment : List ℕ → Bool
+begins_comment [] = false
+begins_comment (first ∷ []) = false
+begins_comment (first ∷ second ∷ bytes) = (first == 47) && ((second == 42) || (second == 47))
 
-abbrev pub is_none : List ℕ → Bool
-is_none [] = true
-is_none (byte ∷ bytes) = false
+-- the end of the text, or a new-line
+abbrev pub ends_line : List ℕ → Bool
+ends_line [] = true
+ends_line (byte ∷ bytes) = is_newline byte
 
--- The token stands behind these texts, which are what was read before and white space, and another
--- text follows. Its line is that of its first byte, counted from 1.
-pub record StandsAt (file : ℕ) (before blank : List ℕ) (token : Token) (after : List ℕ) : Type 0 where
-  pub all_blank : All (λ byte. IsTrue (is_blank byte)) blank
-  pub maximal : IsLongest token.kind token.text after
-  pub same_file : token.span.file ≡ file
-  pub line : token.span.line ≡ 1 + newlines (before ++ blank)
-  pub spaced : token.spaced ≡ not (is_none blank)
+-- no `*/` stands in the text
+abbrev pub HasNoClose : List ℕ → Type 0
+HasNoClose text = (front back : List ℕ) → text ≡ front ++ 42 ∷ 47 ∷ back → ⊥
 
--- the tokens of a text that stands behind another
-abbrev pub Reads : ℕ → List ℕ → List ℕ → List Token → Type 0
-Reads file before text [] = All (λ byte. IsTrue (is_blank byte)) text
-Reads file before text (token ∷ tokens) =
-    (blank after : List ℕ) × (text ≡ blank ++ token.text ++ after) × StandsAt file before blank token after
-    × Reads file (before ++ blank ++ token.text) after tokens
+-- What stands at a place of a text: a byte of white space, a comment, or a token.
+pub data Piece : Type 0 where
+  Blank : ℕ → Piece
+  BlockComment : List ℕ → Piece
+  LineComment : List ℕ → Piece
+  Word : TokenKind → List ℕ → Piece
 
--- the tokens of a whole text
+abbrev pub bytes_of : Piece → List ℕ
+bytes_of (Blank byte) = byte ∷ []
+bytes_of (BlockComment inside) = 47 ∷ 42 ∷ inside ++ 42 ∷ 47 ∷ []
+bytes_of (LineComment inside) = 47 ∷ 47 ∷ inside
+bytes_of (Word kind text) = text
+
+-- A piece that stands right before a text: a comment ends at the first `*/`, or before the first new-line (6.4.9),
+-- and a token is the longest at its place, where no comment begins.
+abbrev pub IsPiece : Piece → List ℕ → Type 0
+IsPiece (Blank byte) after = IsTrue (is_blank byte)
+IsPiece (BlockComment inside) after = HasNoClose (inside ++ 42 ∷ [])
+IsPiece (LineComment inside) after = All (λ byte. is_newline byte ≡ false) inside × IsTrue (ends_line after)
+IsPiece (Word kind text) after = IsLongest kind text after × (begins_comment (text ++ after) ≡ false)
+
+-- the text of pieces, one behind another, and then this text
+abbrev pub spelled : List Piece → List ℕ → List ℕ
+spelled [] after = after
+spelled (piece ∷ pieces) after = bytes_of piece ++ spelled pieces after
+
+-- each piece stands where it may, before the pieces behind it and then this text
+abbrev pub ArePieces : List Piece → List ℕ → Type 0
+ArePieces [] after = Unit {0}
+ArePieces (piece ∷ pieces) after = IsPiece piece (spelled pieces after) × ArePieces pieces after
+
+-- The tokens among pieces that begin at this place, of which this says whether white space stands before it; the
+-- lines of all places are given. A comment is white space.
+abbrev pub tokens_of : ℕ → List ℕ → ℕ → Bool → List Piece → List Token
+tokens_of file lines place spaced [] = []
+tokens_of file lines place spaced (Word kind text ∷ pieces) =
+    record { kind = kind; text = text; span = record { file = file; line = slice_index lines place }; spaced = spaced }
+    ∷ tokens_of file lines (place + length text) false pieces
+tokens_of file lines place spaced (piece ∷ pieces) =
+    tokens_of file lines (place + length (bytes_of piece)) true pieces
+
+-- the tokens of a text with joined lines, of whose bytes these are the lines: it is a list of pieces, and these are
+-- the tokens among them
+abbrev pub AreTokens : ℕ → List ℕ → List ℕ → List Token → Type 0
+AreTokens file bytes lines tokens =
+    (pieces : List Piece) × (bytes ≡ spelled pieces []) × ArePieces pieces [] × (tokens ≡ tokens_of file lines 0 false pieces)
+
+-- in a text with joined lines a comment that opens on this line is not closed: behind pieces stands `/*`, with no
+-- `*/` behind it
+abbrev pub IsOpenAt : List ℕ → List ℕ → ℕ → Type 0
+IsOpenAt bytes lines line =
+    (pieces : List Piece) × (inside : List ℕ) × (bytes ≡ spelled pieces (47 ∷ 42 ∷ inside))
+    × ArePieces pieces (47 ∷ 42 ∷ inside) × HasNoClose inside × (line ≡ slice_index lines (length (spelled pieces [])))
+
+-- The tokens of a whole text.
 abbrev pub IsTokenization : ℕ → List ℕ → List Token → Type 0
-IsTokenization file text tokens = Reads file [] text tokens
+IsTokenization file text tokens = AreTokens file (joined_bytes text) (joined_lines text) tokens
+
+-- The text leaves a comment open that begins on this line.
+abbrev pub LeavesOpen : List ℕ → ℕ → Type 0
+LeavesOpen text line = IsOpenAt (joined_bytes text) (joined_lines text) line

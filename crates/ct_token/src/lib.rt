@@ -2,70 +2,104 @@
 #![tactic(auto)]
 
 mod classes;
+mod constants;
+mod lines;
 mod scan;
 #[cfg(test)]
 mod tests;
 
-ghost use Rattle.std.specs.Prelude.{◌≡◌, ℕ, ◌-◌, ◌^◌, ◌<◌, List, IfOk};
-ghost use Rattle.ct_token.specs.Lexing.{IsToken, IsTokenization, newlines};
+ghost use Rattle.std.specs.Prelude.{◌≡◌, ℕ, ◌-◌, ◌^◌, ◌<◌, List, IfOk, length};
+ghost use Rattle.ct_token.specs.Constants.{Decodes};
+ghost use Rattle.ct_token.specs.Lexing.{AreTokens, IsOpenAt, IsTokenization, LeavesOpen};
+ghost use Rattle.ct_token.specs.Lines.{newlines};
+ghost use Rattle.ct_base.specs.Answers.{IfFault};
 ghost use Rattle.ct_base.specs.declared.lexical.Token.{Token};
-ghost use Rattle.ct_base.specs.declared.memory.Fail.TheVariants.{Fault};
 
-use crate::scan::{blank_len, token_at};
-use ct_base::{Bytes, Out, Span, Token, TokenKind};
+pub use crate::constants::{Literal, characters, integer};
+use crate::lines::join_lines;
+use crate::scan::{Front, front_of};
+use ct_base::{Bytes, Fail, Out, Span, Token};
 use std::alloc::Global;
 use thiserror::Error;
 
-/// A comment that is not closed, by the line on which it opens, counted from 1 (C11 6.4.9). No text
-/// is refused for one as long as no form of comment is read.
+/// A comment that is not closed, by the physical line on which it opens, counted from 1 (C11 6.4.9).
 #[derive(Clone, Copy, Debug, PartialEq, Eq, Error)]
 #[error("a comment is not closed")]
 pub struct LexFault {
     pub line: u32,
 }
 
-/// How many new-lines a token of this kind has.
-fn newlines_of(kind: TokenKind) -> u32
-    ensures { (text : List ℕ) → IsToken kind text → newlines text ≡ result }
-{
-    match kind {
-        TokenKind::Line => 1,
-        _ => 0,
-    }
-}
-
-/// The preprocessing tokens of a text, each new-line as one of its own (C11 6.4). The text is that
-/// of the file with the number `file`. A line of a span is the physical line of the token's first
-/// byte, counted from 1. Lines that end in a backslash are not joined.
+/// The preprocessing tokens of a text, each new-line outside comments as one of its own (C11
+/// 5.1.1.2, 6.4). The text is that of the file with the number `file`. Lines that end in a backslash
+/// are joined, and a comment is white space. The line of a span is the physical line of the token's
+/// first byte, counted from 1. `LexFault` says that a comment is not closed.
 pub fn tokens(alloc: Global, file: u32, bytes: &[u8]) -> Out<Vec<Token>, LexFault>
     requires { newlines bytes.now < 2 ^ 32 - 1 }
     ensures tokens { IfOk result (λ tokens. IsTokenization file bytes.now tokens.items) }
-    // No form of comment is read yet.
-    ensures no_fault { (fault : LexFault) → result ≡ Err (Fault fault) → ⊥ }
+    ensures open { IfFault result (λ fault. LeavesOpen bytes.now fault.line) }
+    // So the fault comes exactly where a comment is not closed.
+    ensures closed { IfOk result (λ tokens. (line : ℕ) → LeavesOpen bytes.now line → ⊥) }
+{
+    let joined = join_lines(alloc, bytes)?;
+    cut(
+        alloc,
+        file,
+        joined.bytes.as_slice(),
+        joined.lines.as_slice(),
+    )
+}
+
+/// The preprocessing tokens of a text with joined lines, of whose bytes these are the lines.
+fn cut(alloc: Global, file: u32, bytes: &[u8], lines: &[u32]) -> Out<Vec<Token>, LexFault>
+    requires { length bytes.now ≡ length lines.now }
+    ensures tokens { IfOk result (λ tokens. AreTokens file bytes.now lines.now tokens.items) }
+    ensures open { IfFault result (λ fault. IsOpenAt bytes.now lines.now fault.line) }
 {
     let mut found = Vec::new(alloc);
-    let mut line = 1;
+    let mut spaced = false;
     let mut rest = bytes;
     loop {
-        let (blank, behind) = rest.split_at(blank_len(rest));
-        let Some((first, more)) = behind.split_first() else {
+        let Some((first, more)) = rest.split_first() else {
             return Ok(found);
         };
-        let (kind, count) = token_at(*first, more);
-        let (text, after) = behind.split_at(count + 1);
-        found.push(Token {
-            kind,
-            text: Bytes::from_slice(alloc, text)?,
-            span: Span { file, line },
-            spaced: !blank.is_empty(),
-        })?;
-        line += newlines_of(kind);
-        rest = after;
+        let line = lines[bytes.len() - rest.len()];
+        match front_of(*first, more) {
+            Front::Space(count) => {
+                spaced = true;
+                rest = &more[count..];
+            }
+            Front::Open => return Err(Fail::Fault(LexFault { line })),
+            Front::Token(kind, count) => {
+                let (text, after) = rest.split_at(count + 1);
+                let text = Bytes::from_slice(alloc, text)?;
+                let span = Span { file, line };
+                found.push(Token {
+                    kind,
+                    text,
+                    span,
+                    spaced,
+                })?;
+                spaced = false;
+                rest = after;
+            }
+        }
     }
 }
+
+/// A text spells one list of bytes at most, so `characters` gives that one.
+pub fn one_decoding()
+    ensures { (text a b : List ℕ) → Decodes text a → Decodes text b → a ≡ b }
+{}
 
 /// A text has one list of tokens: no other list is its tokenization, so `tokens` gives that one.
 pub fn one_tokenization()
     ensures { (file : ℕ) (text : List ℕ) (a b : List Token) →
         IsTokenization file text a → IsTokenization file text b → a ≡ b }
+{}
+
+/// A text leaves a comment open on one line at most, and none where it has a list of tokens.
+pub fn one_open_comment()
+    ensures one { (text : List ℕ) (a b : ℕ) → LeavesOpen text a → LeavesOpen text b → a ≡ b }
+    ensures apart { (file : ℕ) (text : List ℕ) (tokens : List Token) (line : ℕ) →
+        IsTokenization file text tokens → LeavesOpen text line → ⊥ }
 {}

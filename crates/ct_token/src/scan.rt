@@ -1,21 +1,16 @@
 //! How far white space and tokens reach.
 
-ghost use Rattle.std.specs.Prelude.{◌≡◌, ◌<◌, ◌≤◌, ◌==◌, ◌&&◌, ◌||◌, true, false, IsTrue, List, [], ℕ, ◌∷◌, ◌++◌, All, IfNone, IfSome, MatchOption, length, slice_index, take, drop};
+ghost use Rattle.std.specs.Prelude.{◌≡◌, ◌<◌, ◌≤◌, ◌==◌, ◌&&◌, ◌||◌, not, true, false, IsTrue, List, [], ℕ, ◌∷◌, ◌++◌, All, IfNone, IfSome, MatchOption, length, slice_index, take, drop};
 ghost use Rattle.std.specs.List.{prefix_len};
-ghost use Rattle.ct_token.specs.Lexing.{is_blank, is_digit, is_nondigit, is_name_byte, all_continue, is_prefix, IsPlainBetween, IsToken, IsLongest};
+ghost use Rattle.ct_token.specs.Bytes.{is_blank, is_digit, is_nondigit, is_name_byte, is_newline, is_quote};
+ghost use Rattle.ct_token.specs.Lexing.{is_punctuator, all_continue, is_inside, is_prefix, IsToken, IsLongest, HasNoClose, begins_comment};
+ghost use Rattle.ct_token.specs.Fronts.{IsFront};
 ghost use Rattle.ct_base.specs.declared.lexical.TokenKind.TheVariants.{Char, Text};
 
 use crate::classes::{
     continues_number, is_blank, is_digit, is_name_byte, is_nondigit, is_punctuator,
 };
 use ct_base::TokenKind;
-
-/// How many bytes of white space a text begins with.
-pub fn blank_len(text: &[u8]) -> usize
-    ensures { result ≡ prefix_len is_blank text.now }
-{
-    text.iter().take_while(|byte| is_blank(**byte)).count()
-}
 
 /// How many bytes a text begins with that go on with a name.
 fn name_len(text: &[u8]) -> usize
@@ -41,21 +36,24 @@ fn number_len(first: u8, text: &[u8]) -> usize
     text.len()
 }
 
-/// How many plain bytes stand before the quote that closes a text behind such a quote, where one
-/// does (C11 6.4.4.4, 6.4.5).
+/// How many bytes stand before the quote that closes a text behind such a quote, where one does. A
+/// backslash takes the byte behind it (C11 6.4.4.4, 6.4.5).
 fn quoted_len(quote: u8, text: &[u8]) -> Option<usize>
+    requires { is_quote quote ≡ true }
     ensures { MatchOption result
-        ((plain after : List ℕ) → text.now ≡ plain ++ quote ∷ after → All (IsPlainBetween quote) plain → ⊥)
+        ((inside after : List ℕ) → text.now ≡ inside ++ quote ∷ after → IsTrue (is_inside quote inside) → ⊥)
         (λ count. (count < length text.now) × (slice_index text.now count ≡ quote)
-        × All (IsPlainBetween quote) (take count text.now)) }
+        × IsTrue (is_inside quote (take count text.now))) }
 {
+    let mut escaped = false;
     for (index, byte) in text.iter().enumerate() {
-        if *byte == quote {
+        if *byte == quote && !escaped {
             return Some(index);
         }
-        if *byte == b'\\' || *byte == b'\n' {
+        if *byte == b'\n' {
             return None;
         }
+        escaped = *byte == b'\\' && !escaped;
     }
     None
 }
@@ -137,9 +135,27 @@ fn named_at(first: u8, rest: &[u8]) -> (TokenKind, usize)
     }
 }
 
+/// How many bytes behind its first the longest punctuator has that a byte and those behind it
+/// begin.
+fn punctuator_len(first: u8, rest: &[u8]) -> Option<usize>
+    ensures found { IfSome result (λ count. (count ≤ length rest.now) × IsTrue (is_punctuator (first ∷ take count rest.now))
+        × ((more after : List ℕ) → drop count rest.now ≡ more ++ after
+        → IsTrue (is_punctuator (first ∷ (take count rest.now ++ more))) → more ≡ [])) }
+    ensures none { IfNone result ((more after : List ℕ) → rest.now ≡ more ++ after
+        → is_punctuator (first ∷ more) ≡ false) }
+{
+    let mut longest = None;
+    for count in 0..rest.len().min(3) + 1 {
+        if is_punctuator(first, &rest[..count]) {
+            longest = Some(count);
+        }
+    }
+    longest
+}
+
 /// The longest token that a byte other than white space and the bytes behind it begin: its kind,
 /// and how many bytes it has behind its first.
-pub fn token_at(first: u8, rest: &[u8]) -> (TokenKind, usize)
+fn token_at(first: u8, rest: &[u8]) -> (TokenKind, usize)
     requires { is_blank first ≡ false }
     ensures within { result.1 ≤ length rest.now }
     ensures longest { IsLongest result.0 (first ∷ take result.1 rest.now) (drop result.1 rest.now) }
@@ -152,9 +168,74 @@ pub fn token_at(first: u8, rest: &[u8]) -> (TokenKind, usize)
         found
     } else if first == b'\n' {
         (TokenKind::Line, 0)
-    } else if is_punctuator(first) {
-        (TokenKind::Punct, 0)
+    } else if let Some(count) = punctuator_len(first, rest) {
+        (TokenKind::Punct, count)
     } else {
         (TokenKind::Other, 0)
     }
+}
+
+/// How many bytes a text has up to the first `*/` and with it, where there is one.
+fn closed_len(text: &[u8]) -> Option<usize>
+    ensures { MatchOption result (HasNoClose text.now) (λ count. (count ≤ length text.now)
+        × ((inside : List ℕ) × (take count text.now ≡ inside ++ 42 ∷ 47 ∷ []) × HasNoClose (inside ++ 42 ∷ []))) }
+{
+    let mut before = 0;
+    for (index, byte) in text.iter().enumerate() {
+        if before == b'*' && *byte == b'/' {
+            return Some(index + 1);
+        }
+        before = *byte;
+    }
+    None
+}
+
+/// How many bytes stand before the end of a line.
+fn line_len(text: &[u8]) -> usize
+    ensures { result ≡ prefix_len (λ byte. not (is_newline byte)) text.now }
+{
+    text.iter().take_while(|byte| **byte != b'\n').count()
+}
+
+/// What a text begins with.
+pub enum Front {
+    /// White space or a comment, with so many bytes behind its first.
+    Space(usize),
+    /// A comment that is not closed.
+    Open,
+    /// A token, with so many bytes behind its first.
+    Token(TokenKind, usize),
+}
+
+/// The comment that a byte and those behind it begin (C11 6.4.9).
+fn comment_at(first: u8, rest: &[u8]) -> Option<Front>
+    ensures found { IfSome result (IsFront first rest.now) }
+    ensures none { IfNone result (begins_comment (first ∷ rest.now) ≡ false) }
+{
+    if first != b'/' {
+        return None;
+    }
+    let (second, inside) = rest.split_first()?;
+    match *second {
+        b'*' => match closed_len(inside) {
+            Some(count) => Some(Front::Space(count + 1)),
+            None => Some(Front::Open),
+        },
+        b'/' => Some(Front::Space(line_len(inside) + 1)),
+        _ => None,
+    }
+}
+
+/// What a byte and those behind it begin with.
+pub fn front_of(first: u8, rest: &[u8]) -> Front
+    ensures { IsFront first rest.now result }
+{
+    if is_blank(first) {
+        return Front::Space(0);
+    }
+    if let Some(comment) = comment_at(first, rest) {
+        return comment;
+    }
+    let (kind, count) = token_at(first, rest);
+    Front::Token(kind, count)
 }
