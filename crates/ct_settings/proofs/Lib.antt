@@ -1,0 +1,5 @@
+pub mod TextLemmas
+pub mod Ascii
+pub mod DefineLemmas
+pub mod Faults
+pub mod SettingPaths

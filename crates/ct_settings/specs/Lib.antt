@@ -1,0 +1,6 @@
+pub mod Paths
+pub mod Names
+pub mod Values
+pub mod Rows
+pub mod Table
+pub mod Places

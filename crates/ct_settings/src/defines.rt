@@ -1,0 +1,112 @@
+//! Macros that a project file defines.
+
+ghost use Rattle.std.specs.Prelude.{◌≡◌, ◌∷◌, ◌<◌, ◌≤◌, drop, length, MatchOption, position, IfOk, IfSome};
+ghost use Rattle.std.specs.List.{list_any, before_first, after_first};
+ghost use Rattle.ct_yaml.specs.Line as line;
+ghost use Rattle.ct_settings.specs.Names as spec;
+
+use crate::names::is_identifier;
+use crate::record::Define;
+use crate::texts::{behind, first_of};
+use ct_base::{Bytes, Items, Mem};
+use std::alloc::Global;
+
+/// Whether the second byte stands right behind the first somewhere.
+fn has_pair(first: u8, second: u8, text: &[u8]) -> bool
+    ensures { result ≡ line.has_pair first second text.now }
+{
+    let mut rest = text;
+    while let Some((byte, more)) = first_of(rest) {
+        let Some((next, _)) = first_of(more) else {
+            return false;
+        };
+        if byte == first && next == second {
+            return true;
+        }
+        rest = more;
+    }
+    false
+}
+
+/// Whether a project may not define a name.
+fn is_reserved(name: &[u8]) -> bool
+    ensures { result ≡ spec.is_reserved name.now }
+{
+    behind(b"ceedling_head_", name).is_some()
+        || name == b"defined".as_slice()
+        || name == b"__LINE__".as_slice()
+        || name == b"__FILE__".as_slice()
+        || name == b"__STDC__".as_slice()
+        || name == b"__STDC_VERSION__".as_slice()
+}
+
+/// Whether a text may replace a name.
+fn is_body(text: &[u8]) -> bool
+    ensures { result ≡ spec.is_body text.now }
+{
+    !(has_pair(b'#', b'#', text) || has_pair(b'/', b'*', text) || text.contains(&b'\n'))
+}
+
+/// Where the first `=` stands.
+fn equals_place(text: &[u8]) -> Option<usize>
+    ensures place { result ≡ position spec.is_equals text.now }
+    ensures within { IfSome result (λ place. place < length text.now) }
+{
+    text.iter().position(|byte| *byte == b'=')
+}
+
+/// The name and the text of `NAME=TEXT`, or of `NAME`, whose text is `1`.
+fn parts(text: &[u8]) -> (&[u8], &[u8])
+    ensures { (result.0.now, result.1.now) ≡ spec.parts_of text.now }
+{
+    match equals_place(text) {
+        Some(place) => (&text[..place], &text[place + 1..]),
+        None => (text, b"1"),
+    }
+}
+
+/// The define that a text stands for.
+#[tactic(auto, unfolding(crate::specs::Names::define_of))]
+pub fn define(alloc: Global, text: &[u8]) -> Mem<Option<Define>>
+    ensures { IfOk result (λ define. define ≡ spec.define_of text.now) }
+{
+    let (name, body) = parts(text);
+    if !is_identifier(name) || is_reserved(name) || !is_body(body) {
+        return Ok(None);
+    }
+    let name = Bytes::from_slice(alloc, name)?;
+    let text = Bytes::from_slice(alloc, body)?;
+    Ok(Some(Define { name, text }))
+}
+
+fn is_defined(name: &[u8], defines: &[Define]) -> bool
+    ensures { result ≡ spec.is_defined name.now defines.now }
+{
+    defines.iter().any(|define| define.name.as_slice() == name)
+}
+
+/// The define at a place, and those behind it.
+fn first_from(defines: &[Define], place: usize) -> Option<(&Define, &[Define])>
+    ensures { MatchOption result (length defines.now ≤ place)
+        (λ found. (place < length defines.now) × (drop place defines.now ≡ found.0.now ∷ found.1.now)) }
+{
+    if place >= defines.len() {
+        return None;
+    }
+    defines[place..].split_first()
+}
+
+/// Removes each define whose name stands again behind it.
+#[tactic(auto, using(crate::proofs::DefineLemmas::keep_rules))]
+pub fn keep_last(defines: &mut Items<Define>)
+    ensures { defines.new ≡ spec.last_defines defines.old }
+{
+    let mut place = 0;
+    while let Some((define, rest)) = first_from(defines.as_slice(), place) {
+        if is_defined(define.name.as_slice(), rest) {
+            defines.remove(place);
+        } else {
+            place += 1;
+        }
+    }
+}
