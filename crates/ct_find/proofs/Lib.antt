@@ -1,0 +1,16 @@
+mod BridgeLemmas
+mod FindLemmas
+mod GroupLemmas
+mod KindLemmas
+mod Members
+mod NameLemmas
+mod OrderLemmas
+mod PickLemmas
+mod ReachLemmas
+mod ReadLemmas
+mod SetLemmas
+mod StartLemmas
+mod WalkLemmas
+mod WalkedLemmas
+pub mod OneFinding
+mod Ordered

@@ -1,0 +1,7 @@
+use Rattle.std.proofs.Common.{take}
+use Rattle.ct_find.specs.Folders.{IsAdded}
+use Rattle.ct_find.proofs.picking.is_added.Given as goal
+
+-- none so far
+abbrev pub invariant-loop-pattern : goal.invariant-loop-pattern
+invariant-loop-pattern l = IsAdded (take l.pattern-index l.patterns) l.folder → ⊥

@@ -1,0 +1,18 @@
+//! The search for the files of a project.
+#![tactic(auto)]
+
+mod files;
+mod groups;
+mod laws;
+mod picking;
+mod reading;
+mod search;
+mod sets;
+mod starts;
+#[cfg(test)]
+mod tests;
+mod walking;
+
+pub use files::{Files, FindFault};
+pub use laws::one_finding;
+pub use search::find;

@@ -1,0 +1,181 @@
+//! Tests of what no clause says: that the calls succeed, on small projects whose lists are worked
+//! out by hand, and that nothing is listed or read behind a limit.
+
+use crate::{Files, FindFault, find};
+use ct_base::{Fail as Stop, Items, LimitKind, Out, Text};
+use ct_outside::{Finder, MemTree, TreeCall};
+use ct_settings::{Cmock, Pattern, ProjectSettings, WhenPtr};
+use std::alloc::Global;
+use std::test::Fail;
+
+/// Patterns; one with a leading `-` removes.
+fn patterns(alloc: Global, paths: &[&str]) -> Result<Items<Pattern>, Fail> {
+    let mut patterns = Items::new(alloc);
+    for path in paths {
+        let (add, path) = match path.strip_prefix('-') {
+            Some(path) => (false, path),
+            None => (true, *path),
+        };
+        patterns.push(Pattern {
+            add,
+            path: Text::copy_of(alloc, path)?,
+        })?;
+    }
+    Ok(patterns)
+}
+
+fn settings(alloc: Global, test: &[&str], source: &[&str]) -> Result<ProjectSettings, Fail> {
+    Ok(ProjectSettings {
+        build_root: Text::copy_of(alloc, "build")?,
+        test_prefix: Text::copy_of(alloc, "test_")?,
+        test: patterns(alloc, test)?,
+        source: patterns(alloc, source)?,
+        include: Items::new(alloc),
+        support: Items::new(alloc),
+        defines: Items::new(alloc),
+        cmock: Cmock {
+            mock_prefix: Text::copy_of(alloc, "mock_")?,
+            ignore: false,
+            ignore_arg: false,
+            array: false,
+            callback: false,
+            return_thru_ptr: false,
+            expect_any_args: false,
+            strict: false,
+            when_ptr: WhenPtr::Smart,
+            callback_count: true,
+        },
+    })
+}
+
+/// The items of a list, each before a space.
+fn shown(alloc: Global, items: &Items<Text>) -> Result<String, Fail> {
+    let mut text = String::new(alloc);
+    for item in items.as_slice() {
+        text.push_str(item.as_str())?;
+        text.push(' ')?;
+    }
+    Ok(text)
+}
+
+/// The limit at which a search ended, its name before a space and the path.
+fn ending(alloc: Global, answer: Out<Files, FindFault>) -> Result<String, Fail> {
+    match answer {
+        Ok(_) => Ok(String::from_str(alloc, "found")?),
+        Err(Stop::OutOfMemory) => Ok(String::from_str(alloc, "memory")?),
+        Err(Stop::Fault(FindFault::Read)) => Ok(String::from_str(alloc, "read")?),
+        Err(Stop::Fault(FindFault::Limit { kind, path })) => {
+            Ok(format!(in alloc; "{kind:?} {}", path.as_str())?)
+        }
+    }
+}
+
+#[test]
+fn lists_are_sorted_and_patterns_remove(rt: HostRuntime) -> Result<(), Fail> {
+    let alloc = rt.alloc();
+    let mut tree = MemTree::new(alloc, Vec::new(alloc));
+    for path in [
+        "test/test_a.c",
+        "test/old/test_b.c",
+        "test/sub/test_c.c",
+        "test/sub/test.h",
+        "src/lamp.c",
+        "src/lamp.h",
+        "src/gpio.h",
+        "src/test_d.c",
+        "build/test/test_e.c",
+    ] {
+        tree.put(path, b"x")?;
+    }
+    let settings = settings(
+        alloc,
+        &["test/**", "**/build/**", "-test/old/**"],
+        &["src/**"],
+    )?;
+    let Ok(found) = find(alloc, &mut tree, &settings) else {
+        return Err(Fail::from("a limit or a fault"));
+    };
+    assert_eq!(rt;
+        shown(alloc, &found.tests)?.as_str(),
+        "test/sub/test_c.c test/test_a.c "
+    );
+    assert_eq!(rt;
+        shown(alloc, &found.sources)?.as_str(),
+        "src/lamp.c src/test_d.c "
+    );
+    assert_eq!(rt;
+        shown(alloc, &found.headers)?.as_str(),
+        "src/gpio.h src/lamp.h test/sub/test.h "
+    );
+    assert_eq!(rt;
+        shown(alloc, &found.folders)?.as_str(),
+        "src test test/sub "
+    );
+    assert_eq!(rt; found.texts.get("src/gpio.h"), Some(b"x".as_slice()));
+    assert_eq!(rt; found.texts.get("test/old/test_b.c"), None);
+    Ok(())
+}
+
+/// A tree with so many files of these bytes, which are numbered from 10000 on.
+fn numbered(
+    alloc: Global,
+    front: &str,
+    back: &str,
+    count: u64,
+    bytes: &[u8],
+    failing: &[(TreeCall, u64)],
+) -> Result<MemTree, Fail> {
+    let mut tree = MemTree::new(alloc, Vec::from_slice(alloc, failing)?);
+    for number in 0..count {
+        let number = number.saturating_add(10000);
+        let path = format!(in alloc; "{front}{number}{back}")?;
+        tree.put(path.as_str(), bytes)?;
+    }
+    Ok(tree)
+}
+
+/// A tree with a file below so many nested folders `d`.
+fn nested(alloc: Global, depth: u64, failing: &[(TreeCall, u64)]) -> Result<MemTree, Fail> {
+    let mut tree = MemTree::new(alloc, Vec::from_slice(alloc, failing)?);
+    let mut path = String::new(alloc);
+    for _ in 0..depth {
+        path.push_str("d/")?;
+    }
+    path.push_str("x.h")?;
+    tree.put(path.as_str(), b"x")?;
+    Ok(tree)
+}
+
+#[test]
+fn a_folder_has_32_components_at_most(rt: HostRuntime) -> Result<(), Fail> {
+    let alloc = rt.alloc();
+    let settings = settings(alloc, &["d/**"], &[])?;
+    let rows = [(32, 50, "found"), (33, 33, "FolderDepth"), (32, 32, "read")];
+    for (depth, failing, expected) in rows {
+        let mut tree = nested(alloc, depth, &[(TreeCall::List, failing)])?;
+        let ending = ending(alloc, find(alloc, &mut tree, &settings))?;
+        assert!(rt; ending.as_str().starts_with(expected), "{depth} {ending}");
+    }
+    Ok(())
+}
+
+#[test]
+fn files_and_bytes_have_limits(rt: HostRuntime) -> Result<(), Fail> {
+    let alloc = rt.alloc();
+    let settings = settings(alloc, &["test/**"], &["src/**"])?;
+    let big = vec![in alloc; 32u8; 1048577]?;
+    let large = vec![in alloc; 32u8; 1048576]?;
+    let rows = [
+        (".h", 2001, b"x".as_slice(), 1, "Files src/f12000.h"),
+        (".h", 1, large.as_slice(), 9, "found"),
+        (".h", 2, big.as_slice(), 2, "FileBytes src/f10000.h"),
+        (".c", 18, large.as_slice(), 18, "AllBytes src/f10016.c"),
+    ];
+    for (back, count, bytes, failing, expected) in rows {
+        let failing = [(TreeCall::Read, failing)];
+        let mut tree = numbered(alloc, "src/f", back, count, bytes, &failing)?;
+        let ending = ending(alloc, find(alloc, &mut tree, &settings))?;
+        assert_eq!(rt; ending.as_str(), expected, "{back} {count}");
+    }
+    Ok(())
+}
