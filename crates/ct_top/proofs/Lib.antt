@@ -1,14 +1,9 @@
 mod Checks
 mod Includes
-mod Listing
 mod Logs
 mod Members
 mod Misses
-mod OneOutcome
 mod OneWord
-mod Ordered
-mod Projects
-mod Reading
 mod Sequence
 mod Spelling
 mod Standing
@@ -16,3 +11,7 @@ mod Stopping
 mod Taken
 mod Texts
 mod Unique
+mod Projects
+mod NameLemmas
+mod Searches
+mod OneOutcome

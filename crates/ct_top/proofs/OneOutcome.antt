@@ -1,18 +1,28 @@
 -- A project has at most one outcome.
-use Rattle.std.proofs.Common.{◌≡◌, ℕ, inl, inr, List, [], ◌∷◌, Bool, true, false, length, sym, ap, subst, ◌∙◌}
-use Rattle.std.specs.Prelude.{Option, Some, None, Result, Ok, Err, nat_lt, find}
+use Rattle.std.proofs.Common.{◌≡◌, ℕ, inl, inr, ◌⊎◌, List, [], ◌∷◌, ◌++◌, Bool, true, false, length, map, sym, ap, subst, ◌∙◌, ⊎_elim, arith}
+use Rattle.std.specs.Prelude.{Option, Some, None, Result, Ok, Err, nat_lt}
+use Rattle.std.specs.List.{Contains}
 use Rattle.std.specs.FinMap.{get}
+use Rattle.std.proofs.lemmas.Bool.{cases_lt}
 use Rattle.ct_base.specs.declared.lexical.Token.{Token}
+use Rattle.ct_base.specs.declared.limits.LimitKind.{LimitKind}
 use Rattle.ct_base.specs.declared.refusals.Refusal.{Refusal}
-use Rattle.ct_outside.specs.declared.tree.Entry.{Entry}
-use Rattle.ct_outside.specs.Files.{Files, IsListing}
+use Rattle.ct_find.specs.Folders.{IsTest}
+use Rattle.ct_find.specs.Limits.{most_file_bytes}
+use Rattle.ct_find.specs.Results.{Passes, Stays}
+use Rattle.ct_outside.specs.Files.{Files, EachOnce}
 use Rattle.ct_report.specs.declared.logs.RunLog.{RunLog}
-use Rattle.ct_token.specs.Lexing.{IsTokenization}
-use Rattle.ct_top.specs.declared.files.TestFile.{TestFile}
+use Rattle.ct_settings.specs.declared.record.ProjectSettings.{ProjectSettings}
+use Rattle.ct_settings.specs.declared.record.SettingFault.{SettingFault}
+use Rattle.ct_settings.specs.Table.{settings_of}
+use Rattle.ct_token.specs.Lexing.{IsTokenization, LeavesOpen}
+use Rattle.ct_yaml.specs.Text.{text_lines, IsFaultLine}
+use Rattle.ct_yaml.proofs.RunLemmas.{one_node}
 use Rattle.ct_top.specs.Form.{HasForm}
-use Rattle.ct_top.specs.Meaning.{FileMeans, log_of}
-use Rattle.ct_top.specs.Project.{AfterListing, AfterProject, AfterReading, AreTestFiles, FilesMean, HasOutcome, Outcome, ReadFilesMean, TestsMean, is_too_long, most_entries, project_path, project_refusal, test_folder, with_log, with_texts}
-use Rattle.ct_top.proofs.Ordered.{same_length, sorted_paths-unique}
+use Rattle.ct_top.specs.Meaning.{FileMeans, log_of, open_comment}
+use Rattle.ct_top.specs.Project.{FilesMean, HasOutcome, IsSameTest, LongTextMeans, Outcome, ProjectMeans, SearchMeans, SettingsMean, TestsMean, TextMeans, base_name, limit_passed, no_yaml, project_path, same_test, text_at, with_log}
+use Rattle.ct_top.proofs.Members.{contains_first, contains_more, contains_cases, contains_none}
+use Rattle.ct_find.proofs.OneFinding.{one_set}
 use Rattle.ct_top.proofs.Unique.{HasForm-unique}
 
 same_refusal : (r q : Refusal) → ◌≡◌ {A = Result RunLog Refusal} (Err r) (Err q) → r ≡ q
@@ -24,55 +34,127 @@ same_log a b e = cc
 log_or_refusal : (log : RunLog) (refusal : Refusal) → ◌≡◌ {A = Result RunLog Refusal} (Ok log) (Err refusal) → ⊥
 log_or_refusal log refusal e = cc
 
-one_list : (files : Files) (ps qs : List (List ℕ)) → AreTestFiles files ps → AreTestFiles files qs → ps ≡ qs
-one_list files ps qs f g =
-    sorted_paths-unique ps qs f.sorted g.sorted f.once g.once (λ p m. (g.each p).1 ((f.each p).0 m)) (λ p m. (f.each p).1 ((g.each p).0 m))
+-- ---- the line of a text that is refused
 
-one_count : (files : Files) (folder : List ℕ) (xs ys : List Entry) → IsListing files folder xs → IsListing files folder ys → length xs ≡ length ys
-one_count files folder xs ys f g =
-    same_length xs ys f.once g.once (λ e m. (g.each e).1 ((f.each e).0 m)) (λ e m. (f.each e).1 ((g.each e).0 m))
+one_line : (lines : List (List ℕ)) (n m : ℕ) → IsFaultLine lines n → IsFaultLine lines m → n ≡ m
+one_line lines n m (inl f) (inl g) = ⊎_elim
+    (λ below. absurd (f.1 (g.2 n below)))
+    (λ above. ⊎_elim (λ below. absurd (g.1 (f.2 m below))) (λ same. omega arith) (cases_lt m n))
+    (cases_lt n m)
+one_line lines n m (inl f) (inr g) = absurd (f.1 (g.1 n f.0))
+one_line lines n m (inr f) (inl g) = absurd (g.1 (f.1 m g.0))
+one_line lines n m (inr f) (inr g) = f.0 ∙ sym g.0
 
-module _ (one : (file : ℕ) (text : List ℕ) (a b : List Token) → IsTokenization file text a → IsTokenization file text b → a ≡ b) where
+-- ---- the first test file whose name an earlier one has
+
+in_middle : (before after : List (List ℕ)) (path : List ℕ) → Contains (map base_name (before ++ path ∷ after)) (base_name path)
+in_middle [] after path = contains_first (base_name path) (map base_name after)
+in_middle (x ∷ xs) after path = contains_more (base_name x) (map base_name (xs ++ path ∷ after)) (base_name path) (in_middle xs after path)
+
+name_again : (before after : List (List ℕ)) (path : List ℕ) → Contains (map base_name before) (base_name path)
+    → EachOnce (map base_name (before ++ path ∷ after)) → ⊥
+name_again [] after path again once = contains_none (base_name path) again
+name_again (x ∷ xs) after path again once = ⊎_elim
+    (λ same. once.0 (subst (Contains (map base_name (xs ++ path ∷ after))) (sym same) (in_middle xs after path)))
+    (λ later. name_again xs after path later once.1)
+    (contains_cases (base_name x) (map base_name xs) (base_name path) again)
+
+-- two places in a list: the same, or one stands before the other
+Places : List (List ℕ) → List (List ℕ) → List ℕ → List ℕ → Type 0
+Places xs ys p q = (p ≡ q) ⊎ (((rest : List (List ℕ)) × (ys ≡ xs ++ p ∷ rest)) ⊎ ((rest : List (List ℕ)) × (xs ≡ ys ++ q ∷ rest)))
+
+places : (xs ys zs ws : List (List ℕ)) (p q : List ℕ) → xs ++ p ∷ zs ≡ ys ++ q ∷ ws → Places xs ys p q
+unfolding Places
+places [] [] zs ws p q e = let same : p ≡ q = cc in inl same
+places [] (y ∷ ys) zs ws p q e = let same : p ≡ y = cc in inr (inl (ys, ap (λ x. x ∷ ys) (sym same)))
+places (x ∷ xs) [] zs ws p q e = let same : x ≡ q = cc in inr (inr (xs, ap (λ y. y ∷ xs) same))
+places (x ∷ xs) (y ∷ ys) zs ws p q e =
+    let first : x ≡ y = cc in
+    let others : xs ++ p ∷ zs ≡ ys ++ q ∷ ws = cc in
+    ⊎_elim
+    (λ same. inl same)
+    (λ apart. ⊎_elim
+    (λ h. let is : y ∷ ys ≡ x ∷ (xs ++ p ∷ h.0) = ap (λ t. t ∷ ys) (sym first) ∙ ap (λ t. x ∷ t) h.1 in inr (inl (h.0, is)))
+    (λ h. let is : x ∷ xs ≡ y ∷ (ys ++ q ∷ h.0) = ap (λ t. t ∷ xs) first ∙ ap (λ t. y ∷ t) h.1 in inr (inr (h.0, is)))
+    apart)
+    (places xs ys zs ws p q others)
+
+one_same : (paths : List (List ℕ)) (p q : List ℕ) → IsSameTest paths p → IsSameTest paths q → p ≡ q
+unfolding Places
+one_same paths p q f g = ⊎_elim
+    (λ same. same)
+    (λ apart. ⊎_elim
+    (λ h. absurd (name_again f.before h.0 p f.again (subst (λ ps. EachOnce (map base_name ps)) h.1 g.apart)))
+    (λ h. absurd (name_again g.before h.0 q g.again (subst (λ ps. EachOnce (map base_name ps)) h.1 f.apart)))
+    apart)
+    (places f.before g.before f.after g.after p q (sym f.split ∙ g.split))
+
+none_same : (paths : List (List ℕ)) (p : List ℕ) → IsSameTest paths p → EachOnce (map base_name paths) → ⊥
+none_same paths p f once = name_again f.before f.after p f.again (subst (λ ps. EachOnce (map base_name ps)) f.split once)
+
+module _ (one : (file : ℕ) (text : List ℕ) (a b : List Token) → IsTokenization file text a → IsTokenization file text b → a ≡ b)
+    (one_open : (text : List ℕ) (a b : ℕ) → LeavesOpen text a → LeavesOpen text b → a ≡ b)
+    (closed : (file : ℕ) (text : List ℕ) (tokens : List Token) (line : ℕ) → IsTokenization file text tokens → LeavesOpen text line → ⊥)
+    (one_limit : (settings : ProjectSettings) (files : Files) (kind other : LimitKind) (path place : List ℕ)
+    → Passes settings files kind path → Passes settings files other place → (kind ≡ other) × (path ≡ place))
+    (apart : (settings : ProjectSettings) (files : Files) (kind : LimitKind) (path : List ℕ) → Stays settings files → Passes settings files kind path → ⊥) where
   file-unique : (path text : List ℕ) (r q : Result RunLog Refusal) → FileMeans path text r → FileMeans path text q → r ≡ q
-  file-unique path text r q f g =
+  file-unique path text r q (inl f) (inr g) = absurd (closed 0 text f.0 g.0 f.1 g.1)
+  file-unique path text r q (inr f) (inl g) = absurd (closed 0 text g.0 f.0 g.1 f.1)
+  file-unique path text r q (inr f) (inr g) = f.2 ∙ ap (λ line. Err (open_comment path line)) (one_open text f.0 g.0 f.1 g.1) ∙ sym g.2
+  file-unique path text r q (inl f) (inl g) =
       let tokens = one 0 text f.0 g.0 f.1 g.1 in
       let form = HasForm-unique g.0 f.2.0 g.2.0 (subst (λ ts. HasForm ts f.2.0) tokens f.2.1) g.2.1 in
       f.2.2 ∙ ap (log_of path) form ∙ sym g.2.2
 
-  files-unique : (files : List TestFile) (a b : Outcome) → FilesMean files a → FilesMean files b → a ≡ b
-  files-unique [] a b f g = f ∙ sym g
-  files-unique (file ∷ files) a b (inl f) (inl g) =
-      f.2 ∙ ap Err (same_refusal f.0 g.0 (file-unique file.path file.text (Err f.0) (Err g.0) f.1 g.1)) ∙ sym g.2
-  files-unique (file ∷ files) a b (inl f) (inr g) =
-      absurd (log_or_refusal g.0 f.0 (file-unique file.path file.text (Ok g.0) (Err f.0) g.2 f.1))
-  files-unique (file ∷ files) a b (inr f) (inl g) =
-      absurd (log_or_refusal f.0 g.0 (file-unique file.path file.text (Ok f.0) (Err g.0) f.2 g.1))
-  files-unique (file ∷ files) a b (inr f) (inr g) =
-      let log : f.0 ≡ g.0 = same_log f.0 g.0 (file-unique file.path file.text (Ok f.0) (Ok g.0) f.2 g.2) in
-      let others : f.1 ≡ g.1 = files-unique files f.1 g.1 f.3 g.3 in
+  files-unique : (files : Files) (paths : List (List ℕ)) (a b : Outcome) → FilesMean files paths a → FilesMean files paths b → a ≡ b
+  files-unique files [] a b f g = f ∙ sym g
+  files-unique files (path ∷ paths) a b (inl f) (inl g) =
+      f.2 ∙ ap Err (same_refusal f.0 g.0 (file-unique path (text_at files path) (Err f.0) (Err g.0) f.1 g.1)) ∙ sym g.2
+  files-unique files (path ∷ paths) a b (inl f) (inr g) =
+      absurd (log_or_refusal g.0 f.0 (file-unique path (text_at files path) (Ok g.0) (Err f.0) g.2 f.1))
+  files-unique files (path ∷ paths) a b (inr f) (inl g) =
+      absurd (log_or_refusal f.0 g.0 (file-unique path (text_at files path) (Ok f.0) (Err g.0) f.2 g.1))
+  files-unique files (path ∷ paths) a b (inr f) (inr g) =
+      let log : f.0 ≡ g.0 = same_log f.0 g.0 (file-unique path (text_at files path) (Ok f.0) (Ok g.0) f.2 g.2) in
+      let others : f.1 ≡ g.1 = files-unique files paths f.1 g.1 f.3 g.3 in
       f.4 ∙ ap (λ l. with_log l f.1) log ∙ ap (λ o. with_log g.0 o) others ∙ sym g.4
 
-  after_reading : (long : Option TestFile) (files : List TestFile) (a b : Outcome) → AfterReading long files a → AfterReading long files b → a ≡ b
-  after_reading (Some file) files a b f g = f ∙ sym g
-  after_reading None files a b f g = files-unique files a b f g
+  tests-unique : (files : Files) (tests : List (List ℕ)) (a b : Outcome) → TestsMean files tests a → TestsMean files tests b → a ≡ b
+  tests-unique files tests a b (inl f) (inl g) = f.2 ∙ ap (λ p. Err (same_test p)) (one_same tests f.0 g.0 f.1 g.1) ∙ sym g.2
+  tests-unique files tests a b (inl f) (inr g) = absurd (none_same tests f.0 f.1 g.0)
+  tests-unique files tests a b (inr f) (inl g) = absurd (none_same tests g.0 g.1 f.0)
+  tests-unique files tests a b (inr f) (inr g) = files-unique files tests a b f.1 g.1
 
-  read-unique : (files : List TestFile) (a b : Outcome) → ReadFilesMean files a → ReadFilesMean files b → a ≡ b
-  read-unique files a b f g = after_reading (find (λ (file : TestFile). is_too_long file.text) files) files a b f g
+  search-unique : (files : Files) (settings : ProjectSettings) (a b : Outcome) → SearchMeans files settings a → SearchMeans files settings b → a ≡ b
+  search-unique files settings a b (inl f) (inl g) =
+      let tests = one_set (IsTest settings files) f.0.tests g.0.tests f.1.1.tests g.1.1.tests in
+      tests-unique files g.0.tests a b (subst (λ ts. TestsMean files ts a) tests f.2) g.2
+  search-unique files settings a b (inl f) (inr g) = absurd (apart settings files g.0 g.1 f.1.0 g.2)
+  search-unique files settings a b (inr f) (inl g) = absurd (apart settings files f.0 f.1 g.1.0 f.2)
+  search-unique files settings a b (inr f) (inr g) =
+      let same = one_limit settings files f.0 g.0 f.1 g.1 f.2 g.2 in
+      f.3 ∙ ap (λ kind. Err (limit_passed kind f.1)) same.0 ∙ ap (λ path. Err (limit_passed g.0 path)) same.1 ∙ sym g.3
 
-  after_listing : (many : Bool) (files : Files) (a b : Outcome) → AfterListing many files a → AfterListing many files b → a ≡ b
-  after_listing true files a b f g = f ∙ sym g
-  after_listing false files a b f g =
-      read-unique (with_texts files g.0) a b
-      (subst (λ ps. ReadFilesMean (with_texts files ps) a) (one_list files f.0 g.0 f.1 g.1) f.2) g.2
+  settings-unique : (files : Files) (read : Result ProjectSettings SettingFault) (a b : Outcome) → SettingsMean files read a → SettingsMean files read b → a ≡ b
+  settings-unique files (Err fault) a b f g = f ∙ sym g
+  settings-unique files (Ok settings) a b f g = search-unique files settings a b f g
 
-  tests-unique : (files : Files) (a b : Outcome) → TestsMean files a → TestsMean files b → a ≡ b
-  tests-unique files a b f g =
-      after_listing (nat_lt most_entries (length g.0)) files a b
-      (subst (λ n. AfterListing (nat_lt most_entries n) files a) (one_count files test_folder f.0 g.0 f.1 g.1) f.2) g.2
+  text-unique : (files : Files) (text : List ℕ) (a b : Outcome) → TextMeans files text a → TextMeans files text b → a ≡ b
+  text-unique files text a b (inl f) (inl g) =
+      let node = one_node (text_lines text) f.0 g.0 f.1 g.1 in
+      settings-unique files (settings_of g.0) a b (subst (λ n. SettingsMean files (settings_of n) a) node f.2) g.2
+  text-unique files text a b (inl f) (inr g) = absurd (g.1.0 f.0 f.1)
+  text-unique files text a b (inr f) (inl g) = absurd (f.1.0 g.0 g.1)
+  text-unique files text a b (inr f) (inr g) = f.2 ∙ ap (λ n. Err (no_yaml n)) (one_line (text_lines text) f.0 g.0 f.1.1 g.1.1) ∙ sym g.2
 
-  after_project : (refusal : Option Refusal) (files : Files) (a b : Outcome) → AfterProject refusal files a → AfterProject refusal files b → a ≡ b
-  after_project (Some refusal) files a b f g = f ∙ sym g
-  after_project None files a b f g = tests-unique files a b f g
+  long-unique : (long : Bool) (files : Files) (text : List ℕ) (a b : Outcome) → LongTextMeans long files text a → LongTextMeans long files text b → a ≡ b
+  long-unique true files text a b f g = f ∙ sym g
+  long-unique false files text a b f g = text-unique files text a b f g
+
+  project-unique : (files : Files) (text : Option (List ℕ)) (a b : Outcome) → ProjectMeans files text a → ProjectMeans files text b → a ≡ b
+  project-unique files None a b f g = f ∙ sym g
+  project-unique files (Some text) a b f g = long-unique (nat_lt most_file_bytes (length text)) files text a b f g
 
   pub HasOutcome-unique : (files : Files) (a b : Outcome) → HasOutcome files a → HasOutcome files b → a ≡ b
-  HasOutcome-unique files a b f g = after_project (project_refusal (get files project_path)) files a b f g
+  HasOutcome-unique files a b f g = project-unique files (get files project_path) a b f g

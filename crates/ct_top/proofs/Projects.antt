@@ -1,54 +1,60 @@
 -- What the project file makes of a project.
-use Rattle.std.proofs.Common.{◌≡◌, ℕ, ◌<◌, ◌≤◌, List, [], ◌∷◌, ◌++◌, true, false, length, refl, sym, ap, subst, ◌∙◌, arith}
-use Rattle.std.specs.Prelude.{Option, Some, None, IfSome, IsSomeAnd, Err}
+use Rattle.std.proofs.Common.{◌≡◌, ℕ, ◌<◌, ◌≤◌, List, true, false, length, refl, sym, subst, inl, arith}
+use Rattle.std.specs.Prelude.{Option, Some, None, IfOk, IfSome, IsSomeAnd, Result, Ok, Err, nat_lt}
 use Rattle.std.specs.FinMap.{get}
 use Rattle.std.proofs.lemmas.Bool.Decides.{nat_tests}
+use Rattle.ct_base.specs.declared.limits.LimitKind.TheVariants.{FileBytes}
+use Rattle.ct_base.specs.Answers.{IfFault}
+use Rattle.ct_base.specs.declared.memory.Fail.{Fail}
+use Rattle.ct_base.specs.declared.memory.Fail.TheVariants.{Fault, OutOfMemory}
 use Rattle.ct_base.specs.declared.refusals.Refusal.{Refusal}
+use Rattle.ct_find.specs.Limits.{most_file_bytes}
 use Rattle.ct_outside.specs.Files.{Files, ReadsFile}
 use Rattle.ct_outside.specs.declared.tree.Found.{Found}
-use Rattle.ct_outside.specs.declared.tree.Found.TheVariants.{There, Absent, TooLarge}
-use Rattle.ct_top.specs.Project.{AfterProject, HasOutcome, file_bytes, is_too_long, no_project, no_settings, project_path, project_refusal, refusal_of_text, too_long}
+use Rattle.ct_outside.specs.declared.tree.Found.TheVariants.{TooLarge}
+use Rattle.ct_settings.specs.declared.record.ProjectSettings.{ProjectSettings}
+use Rattle.ct_settings.specs.Table.{settings_of}
+use Rattle.ct_yaml.specs.declared.node.Node.{Node}
+use Rattle.ct_yaml.specs.Text.{text_lines, Spells}
+use Rattle.ct_top.specs.Project.{HasOutcome, LongTextMeans, Outcome, ProjectMeans, SearchMeans, SettingsMean, TextMeans, limit_passed, project_path}
+
+long_text : (files : Files) (text : Option (List ℕ)) → IsSomeAnd text (λ bytes. most_file_bytes < length bytes)
+    → ProjectMeans files text (Err (limit_passed FileBytes project_path))
+long_text files None h = absurd h
+long_text files (Some text) h =
+    let test : nat_lt most_file_bytes (length text) ≡ true = grind (arith, nat_tests) in
+    subst (λ t. LongTextMeans t files text (Err (limit_passed FileBytes project_path))) (sym test) refl
 
 -- what is said where an option is there
-pub told_at : {A : Type 0} (o : Option A) (P : A → Type 0) (x : A) → IfSome o P → o ≡ Some x → P x
+told_at : {A : Type 0} (o : Option A) (P : A → Type 0) (x : A) → IfSome o P → o ≡ Some x → P x
 told_at {A = A} o P x h e = let Q : Option A → Type 0 = λ p. IfSome p P in subst Q e h
 
-refused : (files : Files) (refusal : Refusal) → project_refusal (get files project_path) ≡ Some refusal → HasOutcome files (Err refusal)
-refused files refusal is = subst (λ o. AfterProject o files (Err refusal)) (sym is) refl
-
-at_found : (told : Option Files) (files : Files) (found other : Found) (old text : List ℕ) → told ≡ Some files → found ≡ other
-    → IfSome told (λ fs. ReadsFile fs project_path file_bytes found old text) → ReadsFile files project_path file_bytes other old text
-at_found told files found other old text tells is reads =
-    subst (λ f. ReadsFile files project_path file_bytes f old text) is (told_at told (λ fs. ReadsFile fs project_path file_bytes found old text) files reads tells)
-
--- no project file is there
-pub absent : (told : Option Files) (files : Files) (found : Found) (old text : List ℕ) (refusal : Refusal) → told ≡ Some files → found ≡ Absent
-    → IfSome told (λ fs. ReadsFile fs project_path file_bytes found old text) → refusal ≡ no_project → HasOutcome files (Err refusal)
-absent told files found old text refusal tells is reads named =
-    refused files refusal (ap project_refusal (at_found told files found Absent old text tells is reads) ∙ ap Some (sym named))
-
-long_text : (text : List ℕ) → file_bytes < length text → refusal_of_text text ≡ Some (too_long project_path)
-long_text [] long = absurd (omega arith)
-long_text (b ∷ bs) long = let test : is_too_long (b ∷ bs) ≡ true = grind (arith, nat_tests) in rw test refl
-
-long_file : (o : Option (List ℕ)) → IsSomeAnd o (λ bytes. file_bytes < length bytes) → project_refusal o ≡ Some (too_long project_path)
-long_file None h = absurd h
-long_file (Some text) h = long_text text h
-
--- it is too long
+-- the project file is too long
 pub too_large : (told : Option Files) (files : Files) (found : Found) (old text : List ℕ) (refusal : Refusal) → told ≡ Some files → found ≡ TooLarge
-    → IfSome told (λ fs. ReadsFile fs project_path file_bytes found old text) → refusal ≡ too_long project_path → HasOutcome files (Err refusal)
+    → IfSome told (λ fs. ReadsFile fs project_path most_file_bytes found old text) → refusal ≡ limit_passed FileBytes project_path → HasOutcome files (Err refusal)
 too_large told files found old text refusal tells is reads named =
-    refused files refusal (long_file (get files project_path) (at_found told files found TooLarge old text tells is reads) ∙ ap Some (sym named))
+    let long : ReadsFile files project_path most_file_bytes TooLarge old text = subst (λ f. ReadsFile files project_path most_file_bytes f old text) is
+    (told_at told (λ fs. ReadsFile fs project_path most_file_bytes found old text) files reads tells) in
+    subst (λ r. HasOutcome files (Err r)) (sym named) (long_text files (get files project_path) long)
 
-short_text : (text : List ℕ) → length text ≤ file_bytes → 0 < length text → refusal_of_text text ≡ Some no_settings
-short_text [] short some = absurd (omega arith)
-short_text (b ∷ bs) short some = let test : is_too_long (b ∷ bs) ≡ false = grind (arith, nat_tests) in rw test refl
+-- the text is not too long, so it decides
+pub short_text : (files : Files) (text : List ℕ) (outcome : Outcome) → get files project_path ≡ Some text → length text ≤ most_file_bytes
+    → TextMeans files text outcome → HasOutcome files outcome
+short_text files text outcome is short means =
+    let test : nat_lt most_file_bytes (length text) ≡ false = grind (arith, nat_tests) in
+    let here : ProjectMeans files (Some text) outcome = subst (λ t. LongTextMeans t files text outcome) (sym test) means in
+    subst (λ o. ProjectMeans files o outcome) (sym is) here
 
--- it is not empty
-pub not_empty : (told : Option Files) (files : Files) (found : Found) (old text : List ℕ) (refusal : Refusal) → old ≡ [] → told ≡ Some files → found ≡ There
-    → IfSome told (λ fs. ReadsFile fs project_path file_bytes found old text) → 0 < length text → refusal ≡ no_settings → HasOutcome files (Err refusal)
-not_empty told files found old text refusal new tells is reads some named =
-    let read = at_found told files found There old text tells is reads in
-    let same : text ≡ read.0 = read.3 ∙ ap (λ front. front ++ read.0) new in
-    refused files refusal (ap project_refusal read.1 ∙ short_text read.0 read.2 (subst (λ t. 0 < length t) same some) ∙ ap Some (sym named))
+-- the text spells a node, so its settings decide
+pub text_goes_on : (text : List ℕ) (node : Node) (r : Result ProjectSettings (Fail Refusal)) → Spells (text_lines text) node
+    → IfOk r (λ settings. settings_of node ≡ Ok settings)
+    → IfOk r (λ settings. (files : Files) (outcome : Outcome) → SearchMeans files settings outcome → TextMeans files text outcome)
+text_goes_on text node (Ok settings) spells is =
+    λ files outcome means. inl (node, spells, subst (λ answer. SettingsMean files answer outcome) (sym is) means)
+text_goes_on text node (Err fail) spells is = tt
+
+-- a refusal of the text, over these files
+pub text_refused : (T : Type 0) (files : Files) (text : List ℕ) (fail : Fail Refusal)
+    → IfFault {T = T} (Err fail) (λ refusal. (fs : Files) → TextMeans fs text (Err refusal)) → IfFault {T = T} (Err fail) (λ refusal. TextMeans files text (Err refusal))
+text_refused T files text (Fault refusal) h = h files
+text_refused T files text OutOfMemory h = tt

@@ -3,5 +3,4 @@ pub mod Form
 pub mod Meaning
 pub mod Project
 pub mod Reading
-pub mod Read
 pub mod Stops

@@ -1,11 +1,11 @@
 -- What a test file means.
-use Rattle.std.specs.Prelude.{◌≡◌, ℕ, ◌==◌, List, [], ◌++◌, map, find, not, Option, Some, None, Result, Ok, Err, codes, decimal}
+use Rattle.std.specs.Prelude.{◌≡◌, ◌⊎◌, ℕ, ◌==◌, List, [], ◌++◌, map, find, not, Option, Some, None, Result, Ok, Err, codes, decimal}
 use Rattle.ct_base.specs.declared.lexical.Token.{Token}
 use Rattle.ct_base.specs.declared.refusals.Refusal.{Refusal}
 use Rattle.ct_report.specs.declared.logs.Verdict.TheVariants.{Pass, Fail}
 use Rattle.ct_report.specs.declared.logs.TestLine.{TestLine}
 use Rattle.ct_report.specs.declared.logs.RunLog.{RunLog}
-use Rattle.ct_token.specs.Lexing.{IsTokenization}
+use Rattle.ct_token.specs.Lexing.{IsTokenization, LeavesOpen}
 use Rattle.ct_top.specs.declared.form.Check.{Check}
 use Rattle.ct_top.specs.declared.form.TestFunction.{TestFunction}
 use Rattle.ct_top.specs.Form.{HasForm}
@@ -43,6 +43,16 @@ log_of path (Err token) = Err (unsupported path token)
 abbrev pub TokensMean : List ℕ → List Token → Result RunLog Refusal → Type 0
 TokensMean path tokens answer = (form : Result (List TestFunction) Token) × HasForm tokens form × (answer ≡ log_of path form)
 
+-- the number of the kind of refusals of a text that is no list of tokens
+abbrev pub lex_kind : ℕ
+lex_kind = 5
+
+-- the refusal of a comment that opens on this line and is not closed
+abbrev pub open_comment : List ℕ → ℕ → Refusal
+open_comment path line = record { kind = lex_kind; file = path; line = line; text = codes "Lex OpenComment" }
+
 -- A test file of this path and text has this log, or is refused so.
 abbrev pub FileMeans : List ℕ → List ℕ → Result RunLog Refusal → Type 0
-FileMeans path text answer = (tokens : List Token) × IsTokenization 0 text tokens × TokensMean path tokens answer
+FileMeans path text answer =
+    ((tokens : List Token) × IsTokenization 0 text tokens × TokensMean path tokens answer)
+    ⊎ ((line : ℕ) × LeavesOpen text line × (answer ≡ Err (open_comment path line)))

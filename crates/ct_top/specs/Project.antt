@@ -1,36 +1,33 @@
 -- What a project means: the report of its tests, or its first refusal.
-use Rattle.std.specs.Prelude.{◌≡◌, ◌⊎◌, ℕ, ◌↔◌, ◌&&◌, Bool, true, false, IsTrue, List, [], ◌∷◌, ◌++◌, map, length, find, nat_eq, nat_lt, Option, Some, None, IsSome, unwrap_or, Result, Ok, Err, codes, decimal, if◌then◌else◌}
-use Rattle.std.specs.List.{Contains, starts_with, ends_with, list_any}
-use Rattle.std.specs.List.Sorted.{IsSorted}
-use Rattle.std.specs.Ordering.{nat_cmp}
-use Rattle.std.specs.Cmp.Lexicographic.{slice_cmp}
+use Rattle.std.specs.Prelude.{◌≡◌, ◌⊎◌, ℕ, Bool, true, false, List, [], ◌∷◌, ◌++◌, map, length, nat_lt, Option, Some, None, unwrap_or, Result, Ok, Err, codes, decimal, if◌then◌else◌}
+use Rattle.std.specs.List.{Contains, list_any}
 use Rattle.std.specs.FinMap.{get}
 use Rattle.ct_base.specs.declared.answers.Status.{Status}
 use Rattle.ct_base.specs.declared.answers.Status.TheVariants.{Refused}
+use Rattle.ct_base.specs.declared.limits.LimitKind.{LimitKind}
+use Rattle.ct_base.specs.declared.limits.LimitKind.TheVariants as limits
+use Rattle.ct_base.specs.declared.memory.Fail.TheVariants.{Fault}
 use Rattle.ct_base.specs.declared.refusals.Refusal.{Refusal}
-use Rattle.ct_outside.specs.declared.tree.Entry.{Entry}
-use Rattle.ct_outside.specs.Files.{Files, is_slash, EachOnce, IsListing}
+use Rattle.ct_find.specs.declared.files.FindFault.TheVariants.{Limit}
+use Rattle.ct_find.specs.declared.files.Files.{Files as Found}
+use Rattle.ct_find.specs.Limits.{most_file_bytes}
+use Rattle.ct_find.specs.Results.{Finds}
+use Rattle.ct_outside.specs.Files.{Files, is_slash, EachOnce}
 use Rattle.ct_report.specs.declared.logs.RunLog.{RunLog}
 use Rattle.ct_report.specs.Report.{report_of, status_of}
-use Rattle.ct_top.specs.declared.files.TestFile.{TestFile}
+use Rattle.ct_settings.specs.declared.record.ProjectSettings.{ProjectSettings}
+use Rattle.ct_settings.specs.declared.record.SettingFault.{SettingFault}
+use Rattle.ct_settings.specs.declared.record.SettingKind.{SettingKind}
+use Rattle.ct_settings.specs.declared.record.SettingKind.TheVariants.{NotMap, NotText, NotList, NotBool, BadValue}
+use Rattle.ct_settings.specs.Table.{settings_of}
 use Rattle.ct_top.specs.Meaning.{FileMeans}
-
--- the most bytes that a file may have, and the most entries that may be listed
-abbrev pub file_bytes : ℕ
-file_bytes = 1048576
-
-abbrev pub most_entries : ℕ
-most_entries = 20000
-
--- more bytes than a file may have
-abbrev pub is_too_long : List ℕ → Bool
-is_too_long text = nat_lt file_bytes (length text)
+use Rattle.ct_yaml.specs.declared.node.Node.{Node}
+use Rattle.ct_yaml.specs.Text.{text_lines, Spells, IsFaultLine}
 
 abbrev pub project_path : List ℕ
 project_path = codes "project.yml"
 
-abbrev pub test_folder : List ℕ
-test_folder = codes "test"
+-- ---- refusals
 
 -- the numbers of kinds of refusals, in the order in which they come
 abbrev pub absent_kind : ℕ
@@ -38,6 +35,9 @@ absent_kind = 1
 
 abbrev pub settings_kind : ℕ
 settings_kind = 2
+
+abbrev pub names_kind : ℕ
+names_kind = 3
 
 abbrev pub limit_kind : ℕ
 limit_kind = 4
@@ -48,49 +48,58 @@ refusal kind file line text = record { kind = kind; file = file; line = line; te
 abbrev pub no_project : Refusal
 no_project = refusal absent_kind project_path 0 (codes "NoProject")
 
--- a project file that is not empty: no setting is known
-abbrev pub no_settings : Refusal
-no_settings = refusal settings_kind project_path 1 (codes "Settings Yaml")
+-- a project file that is no YAML of the profile
+abbrev pub no_yaml : ℕ → Refusal
+no_yaml line = refusal settings_kind project_path line (codes "Settings Yaml")
 
-abbrev pub too_long : List ℕ → Refusal
-too_long path = refusal limit_kind path 0 (codes "Limit FileBytes")
+abbrev pub setting_word : SettingKind → List ℕ
+setting_word NotMap = codes "NotMap"
+setting_word NotText = codes "NotText"
+setting_word NotList = codes "NotList"
+setting_word NotBool = codes "NotBool"
+setting_word BadValue = codes "BadValue"
 
-abbrev pub too_many_entries : Refusal
-too_many_entries = refusal limit_kind test_folder 0 (codes "Limit Entries")
+-- `Settings KEY KIND`
+abbrev pub bad_setting : SettingFault → Refusal
+bad_setting fault = refusal settings_kind project_path 0 (codes "Settings " ++ fault.key ++ codes " " ++ setting_word fault.kind)
 
--- why the project file refuses the project
-abbrev pub refusal_of_text : List ℕ → Option Refusal
-refusal_of_text [] = None
-refusal_of_text (byte ∷ bytes) = if is_too_long (byte ∷ bytes) then Some (too_long project_path) else Some no_settings
+abbrev pub limit_word : LimitKind → List ℕ
+limit_word limits.FileBytes = codes "FileBytes"
+limit_word limits.AllBytes = codes "AllBytes"
+limit_word limits.Files = codes "Files"
+limit_word limits.Entries = codes "Entries"
+limit_word limits.FolderDepth = codes "FolderDepth"
+limit_word limits.Tokens = codes "Tokens"
+limit_word limits.IncludeDepth = codes "IncludeDepth"
+limit_word limits.ExpressionDepth = codes "ExpressionDepth"
+limit_word limits.StatementDepth = codes "StatementDepth"
+limit_word limits.DeclaratorDepth = codes "DeclaratorDepth"
+limit_word limits.TypeParts = codes "TypeParts"
+limit_word limits.ObjectBytes = codes "ObjectBytes"
+limit_word limits.StaticBytes = codes "StaticBytes"
+limit_word limits.AutoObjects = codes "AutoObjects"
+limit_word limits.AutoBytes = codes "AutoBytes"
+limit_word limits.Tests = codes "Tests"
+limit_word limits.MockedFunctions = codes "MockedFunctions"
 
-abbrev pub project_refusal : Option (List ℕ) → Option Refusal
-project_refusal None = Some no_project
-project_refusal (Some text) = refusal_of_text text
+-- `Limit QUANTITY`, at a file or a folder
+abbrev pub limit_passed : LimitKind → List ℕ → Refusal
+limit_passed kind path = refusal limit_kind path 0 (codes "Limit " ++ limit_word kind)
 
--- the name of a test file: it begins with `test_` and ends in `.c`
-abbrev pub is_test_file_name : List ℕ → Bool
-is_test_file_name name = starts_with nat_eq name (codes "test_") && ends_with nat_eq name (codes ".c")
+-- what stands behind the last slash
+abbrev pub base_name : List ℕ → List ℕ
+base_name [] = []
+base_name (byte ∷ bytes) = if list_any is_slash (byte ∷ bytes) then base_name bytes else byte ∷ bytes
 
-abbrev pub in_test_folder : List ℕ → List ℕ
-in_test_folder name = test_folder ++ 47 ∷ name
+-- `SameTest NAME`, at the later of two test files
+abbrev pub same_test : List ℕ → Refusal
+same_test path = refusal names_kind path 0 (codes "SameTest " ++ base_name path)
 
--- a test file: a file directly in the test folder with such a name
-abbrev pub IsTestFile : Files → List ℕ → Type 0
-IsTestFile files path =
-    (name : List ℕ) × (path ≡ in_test_folder name) × (list_any is_slash name ≡ false) × IsTrue (is_test_file_name name) × IsSome (get files path)
+-- ---- test files
 
--- the test files, each once, sorted by the bytes of their paths
-pub record AreTestFiles (files : Files) (paths : List (List ℕ)) : Type 0 where
-  pub each : (path : List ℕ) → Contains paths path ↔ IsTestFile files path
-  pub once : EachOnce paths
-  pub sorted : IsSorted (slice_cmp nat_cmp) paths
-
--- a file with its bytes; it is asked of paths that have a file alone
-abbrev pub with_text : Files → List ℕ → TestFile
-with_text files path = record { path = path; text = unwrap_or (get files path) [] }
-
-abbrev pub with_texts : Files → List (List ℕ) → List TestFile
-with_texts files paths = map (with_text files) paths
+-- the bytes of a file; it is asked of paths that have a file alone
+abbrev pub text_at : Files → List ℕ → List ℕ
+text_at files path = unwrap_or (get files path) []
 
 -- the logs of the test files that are run, in order, or the first refusal
 abbrev pub Outcome : Type 0
@@ -101,36 +110,60 @@ with_log log (Ok logs) = Ok (log ∷ logs)
 with_log log (Err refusal) = Err refusal
 
 -- The first file that is refused refuses the project, and then no later one counts. Else each has its log.
-abbrev pub FilesMean : List TestFile → Outcome → Type 0
-FilesMean [] outcome = outcome ≡ Ok []
-FilesMean (file ∷ files) outcome =
-    ((refusal : Refusal) × FileMeans file.path file.text (Err refusal) × (outcome ≡ Err refusal))
-    ⊎ ((log : RunLog) × (others : Outcome) × FileMeans file.path file.text (Ok log) × FilesMean files others × (outcome ≡ with_log log others))
+abbrev pub FilesMean : Files → List (List ℕ) → Outcome → Type 0
+FilesMean files [] outcome = outcome ≡ Ok []
+FilesMean files (path ∷ paths) outcome =
+    ((refusal : Refusal) × FileMeans path (text_at files path) (Err refusal) × (outcome ≡ Err refusal))
+    ⊎ ((log : RunLog) × (others : Outcome) × FileMeans path (text_at files path) (Ok log) × FilesMean files paths others × (outcome ≡ with_log log others))
 
--- Every file is read before any is translated, so one that is too long comes first.
-abbrev pub AfterReading : Option TestFile → List TestFile → Outcome → Type 0
-AfterReading (Some file) files outcome = outcome ≡ Err (too_long file.path)
-AfterReading None files outcome = FilesMean files outcome
+-- The path is the first whose base name one before it has.
+pub record IsSameTest (paths : List (List ℕ)) (path : List ℕ) : Type 0 where
+  pub before : List (List ℕ)
+  pub after : List (List ℕ)
+  pub split : paths ≡ before ++ path ∷ after
+  pub apart : EachOnce (map base_name before)
+  pub again : Contains (map base_name before) (base_name path)
 
-abbrev pub ReadFilesMean : List TestFile → Outcome → Type 0
-ReadFilesMean files outcome = AfterReading (find (λ file. is_too_long file.text) files) files outcome
+-- two test files with one base name refuse the project, before any test file is translated
+abbrev pub TestsMean : Files → List (List ℕ) → Outcome → Type 0
+TestsMean files tests outcome =
+    ((path : List ℕ) × IsSameTest tests path × (outcome ≡ Err (same_test path)))
+    ⊎ (EachOnce (map base_name tests) × FilesMean files tests outcome)
 
--- the listing of the test folder, and what the test files mean
-abbrev pub AfterListing : Bool → Files → Outcome → Type 0
-AfterListing true files outcome = outcome ≡ Err too_many_entries
-AfterListing false files outcome = (paths : List (List ℕ)) × AreTestFiles files paths × ReadFilesMean (with_texts files paths) outcome
+-- ---- the project
 
-abbrev pub TestsMean : Files → Outcome → Type 0
-TestsMean files outcome =
-    (entries : List Entry) × IsListing files test_folder entries × AfterListing (nat_lt most_entries (length entries)) files outcome
+-- what is found, or the limit that listing or reading passes
+abbrev pub SearchMeans : Files → ProjectSettings → Outcome → Type 0
+SearchMeans files settings outcome =
+    ((found : Found) × Finds settings files (Ok found) × TestsMean files found.tests outcome)
+    ⊎ ((kind : LimitKind) × (path : List ℕ) × Finds settings files (Err (Fault (Limit kind path))) × (outcome ≡ Err (limit_passed kind path)))
 
-abbrev pub AfterProject : Option Refusal → Files → Outcome → Type 0
-AfterProject (Some refusal) files outcome = outcome ≡ Err refusal
-AfterProject None files outcome = TestsMean files outcome
+abbrev pub SettingsMean : Files → Result ProjectSettings SettingFault → Outcome → Type 0
+SettingsMean files (Err fault) outcome = outcome ≡ Err (bad_setting fault)
+SettingsMean files (Ok settings) outcome = SearchMeans files settings outcome
+
+-- no node spells the text, and this is the line at which it is refused
+abbrev pub IsNoYaml : List ℕ → ℕ → Type 0
+IsNoYaml text line = ((node : Node) → Spells (text_lines text) node → ⊥) × IsFaultLine (text_lines text) line
+
+-- the text of the project file spells a node, or is refused at a line
+abbrev pub TextMeans : Files → List ℕ → Outcome → Type 0
+TextMeans files text outcome =
+    ((node : Node) × Spells (text_lines text) node × SettingsMean files (settings_of node) outcome)
+    ⊎ ((line : ℕ) × IsNoYaml text line × (outcome ≡ Err (no_yaml line)))
+
+-- it is not read where it is too long
+abbrev pub LongTextMeans : Bool → Files → List ℕ → Outcome → Type 0
+LongTextMeans true files text outcome = outcome ≡ Err (limit_passed limits.FileBytes project_path)
+LongTextMeans false files text outcome = TextMeans files text outcome
+
+abbrev pub ProjectMeans : Files → Option (List ℕ) → Outcome → Type 0
+ProjectMeans files None outcome = outcome ≡ Err no_project
+ProjectMeans files (Some text) outcome = LongTextMeans (nat_lt most_file_bytes (length text)) files text outcome
 
 -- A project of these files has this outcome.
 abbrev pub HasOutcome : Files → Outcome → Type 0
-HasOutcome files outcome = AfterProject (project_refusal (get files project_path)) files outcome
+HasOutcome files outcome = ProjectMeans files (get files project_path) outcome
 
 -- `ERROR: FILE:LINE: TEXT`
 abbrev pub refusal_line : Refusal → List ℕ

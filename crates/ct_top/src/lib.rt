@@ -1,14 +1,15 @@
 //! The top call: from the words and the files of a project to the report.
 #![tactic(auto)]
 
-mod files;
 mod form;
 mod items;
 mod laws;
+mod names;
 mod numbers;
 mod project;
 mod refusing;
 mod running;
+mod searching;
 mod stops;
 #[cfg(test)]
 mod tests;

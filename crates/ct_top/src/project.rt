@@ -1,31 +1,34 @@
-//! The project file and the listing of the test folder.
+//! The project file and its settings.
 
-ghost use Rattle.std.specs.Prelude.{◌≡◌, IfOk, IfSome, OnOk, List, map, filter, IsTrue, string_bytes};
-ghost use Rattle.std.specs.List.Sorted.{IsPermutation, IsSorted};
-ghost use Rattle.std.specs.String.{string_cmp};
+ghost use Rattle.std.specs.Prelude.{◌≡◌, ◌≤◌, ℕ, IfOk, Some, Ok, Err, length};
+ghost use Rattle.std.specs.FinMap.{get};
+ghost use Rattle.ct_base.specs.Answers.{IfFault};
+ghost use Rattle.ct_find.specs.Limits.{most_file_bytes};
 ghost use Rattle.ct_outside.specs.Files.{Files};
-ghost use Rattle.ct_top.specs.Project.{HasOutcome, Outcome, ReadFilesMean, TestsMean, with_texts};
-ghost use Rattle.ct_top.specs.Read.{AreThere, is_test_entry, test_paths_of, texts_of};
+ghost use Rattle.ct_settings.specs.Table.{settings_of};
+ghost use Rattle.ct_settings.specs.declared.record.SettingFault.{SettingFault};
+ghost use Rattle.ct_top.specs.Project.{HasOutcome, IsNoYaml, Outcome, SearchMeans, TextMeans, bad_setting, no_yaml, project_path};
 ghost use Rattle.ct_top.specs.Stops.{FaultsAfter, IfRefused};
+ghost use Rattle.ct_yaml.specs.Text.{Spells, text_lines};
 
-use crate::files::FILE_BYTES;
-use crate::refusing::{LIMIT, NO_PROJECT, SETTINGS, refuse};
+use crate::refusing::{bad_setting, limit_passed, no_project, no_yaml};
 use crate::stops::Stop;
-use ct_base::Mem;
-use ct_outside::{Entry, Found, Tree};
+use ct_base::{Fail, LimitKind, Out, Refusal};
+use ct_outside::{Found, Tree};
+use ct_settings::{ProjectSettings, settings};
+use ct_yaml::{Node, read};
 use std::alloc::Global;
 
-const PROJECT_FILE: &str = "project.yml";
+/// The path of the project file.
+pub const PROJECT_FILE: &str = "project.yml";
 
-const TEST_FOLDER: &str = "test";
+/// The most bytes that a file may have.
+const FILE_BYTES: u64 = 1048576;
 
-/// The most entries that may be listed.
-const MOST_ENTRIES: usize = 20000;
-
-/// Reads the project file, which must be there and empty, since no setting is read yet.
-pub fn check_project_file<T: Tree>(alloc: Global, tree: &mut T) -> Result<(), Stop>
-    ensures goes_on { (files : Files) → T.files tree.old ≡ Some files →
-        OnOk result ((outcome : Outcome) → TestsMean files outcome → HasOutcome files outcome) }
+/// The bytes of the project file.
+fn project_text<T: Tree>(alloc: Global, tree: &mut T) -> Result<Vec<u8>, Stop>
+    ensures told { (files : Files) → T.files tree.old ≡ Some files → IfOk result (λ text. get files project_path ≡ Some text.items) }
+    ensures small { IfOk result (λ text. length text.items ≤ most_file_bytes) }
     ensures refused { (files : Files) → T.files tree.old ≡ Some files → IfRefused result (λ refusal. HasOutcome files (Err refusal)) }
     ensures same_files { T.files tree.new ≡ T.files tree.old }
     ensures faults { FaultsAfter result (T.read_faults tree.old) (T.read_faults tree.new) }
@@ -33,75 +36,61 @@ pub fn check_project_file<T: Tree>(alloc: Global, tree: &mut T) -> Result<(), St
 {
     let mut text = Vec::new(alloc);
     match tree.read(alloc, PROJECT_FILE, FILE_BYTES, &mut text)? {
-        Found::There if text.is_empty() => Ok(()),
-        Found::There => Err(Stop::Refused(refuse(
+        Found::There => Ok(text),
+        Found::Absent => Err(Stop::Refused(no_project(alloc)?)),
+        Found::TooLarge => Err(Stop::Refused(limit_passed(
             alloc,
-            SETTINGS,
+            LimitKind::FileBytes,
             PROJECT_FILE,
-            1,
-            b"Settings Yaml",
-        )?)),
-        Found::Absent => Err(Stop::Refused(refuse(
-            alloc,
-            NO_PROJECT,
-            PROJECT_FILE,
-            0,
-            b"NoProject",
-        )?)),
-        Found::TooLarge => Err(Stop::Refused(refuse(
-            alloc,
-            LIMIT,
-            PROJECT_FILE,
-            0,
-            b"Limit FileBytes",
         )?)),
     }
 }
 
-/// The paths of the test files, in the order of their bytes.
-pub fn test_paths<T: Tree>(alloc: Global, tree: &mut T) -> Result<Vec<String>, Stop>
-    ensures goes_on { (files : Files) → T.files tree.old ≡ Some files → IfOk result (λ paths. AreThere files paths.items
-        × ((outcome : Outcome) → ReadFilesMean (with_texts files (texts_of paths.items)) outcome → TestsMean files outcome)) }
-    ensures refused { (files : Files) → T.files tree.old ≡ Some files → IfRefused result (λ refusal. TestsMean files (Err refusal)) }
+/// The tree of the text of a project file.
+#[tactic(auto, using(ct_yaml::proofs::CutLemmas::text_lines_few))]
+fn node_of(alloc: Global, text: &[u8]) -> Out<Node, Refusal>
+    requires { length text.now ≤ most_file_bytes }
+    ensures ok { IfOk result (λ node. Spells (text_lines text.now) node) }
+    ensures refused { IfFault result (λ refusal. (line : ℕ) × IsNoYaml text.now line × (refusal ≡ no_yaml line)) }
+{
+    match read(alloc, text) {
+        Ok(node) => Ok(node),
+        Err(Fail::OutOfMemory) => Err(Fail::OutOfMemory),
+        Err(Fail::Fault(fault)) => Err(Fail::Fault(no_yaml(alloc, fault.line)?)),
+    }
+}
+
+/// The settings of the tree of a project file.
+fn settings_of(alloc: Global, node: &Node) -> Out<ProjectSettings, Refusal>
+    ensures ok { IfOk result (λ settings. settings_of node.now ≡ Ok settings) }
+    ensures refused { IfFault result (λ refusal. (fault : SettingFault) × (settings_of node.now ≡ Err fault) × (refusal ≡ bad_setting fault)) }
+{
+    match settings(alloc, node) {
+        Ok(settings) => Ok(settings),
+        Err(Fail::OutOfMemory) => Err(Fail::OutOfMemory),
+        Err(Fail::Fault(fault)) => Err(Fail::Fault(bad_setting(alloc, &fault)?)),
+    }
+}
+
+/// The settings of the text of a project file.
+fn settings_of_text(alloc: Global, text: &[u8]) -> Out<ProjectSettings, Refusal>
+    requires { length text.now ≤ most_file_bytes }
+    ensures ok { IfOk result (λ settings. (files : Files) (outcome : Outcome) → SearchMeans files settings outcome → TextMeans files text.now outcome) }
+    ensures refused { IfFault result (λ refusal. (files : Files) → TextMeans files text.now (Err refusal)) }
+{
+    let node = node_of(alloc, text)?;
+    settings_of(alloc, &node)
+}
+
+/// The settings of a project.
+pub fn project_settings<T: Tree>(alloc: Global, tree: &mut T) -> Result<ProjectSettings, Stop>
+    ensures goes_on { (files : Files) → T.files tree.old ≡ Some files →
+        IfOk result (λ settings. (outcome : Outcome) → SearchMeans files settings outcome → HasOutcome files outcome) }
+    ensures refused { (files : Files) → T.files tree.old ≡ Some files → IfRefused result (λ refusal. HasOutcome files (Err refusal)) }
     ensures same_files { T.files tree.new ≡ T.files tree.old }
     ensures faults { FaultsAfter result (T.read_faults tree.old) (T.read_faults tree.new) }
     ensures write_faults { T.write_faults tree.new ≡ T.write_faults tree.old }
 {
-    let mut entries = Vec::new(alloc);
-    tree.list(alloc, TEST_FOLDER, &mut entries)?;
-    if entries.len() > MOST_ENTRIES {
-        return Err(Stop::Refused(refuse(alloc, LIMIT, TEST_FOLDER, 0, b"Limit Entries")?));
-    }
-    Ok(sorted_paths(alloc, entries.as_slice())?)
-}
-
-/// The paths of the entries that are test files, in the order of their bytes.
-fn sorted_paths(alloc: Global, entries: &[Entry]) -> Mem<Vec<String>>
-    ensures sorted { IfOk result (λ paths. IsSorted string_cmp paths.items) }
-    ensures same { IfOk result (λ paths. IsPermutation (test_paths_of entries.now) (texts_of paths.items)) }
-{
-    let mut paths = paths(alloc, entries)?;
-    paths.sort()?;
-    Ok(paths)
-}
-
-/// The paths of the entries that are test files.
-fn paths(alloc: Global, entries: &[Entry]) -> Mem<Vec<String>>
-    ensures { IfOk result (λ paths. texts_of paths.items ≡ test_paths_of entries.now) }
-{
-    let mut paths = Vec::new(alloc);
-    for entry in entries {
-        if is_test_file(entry) {
-            paths.push(format!(in alloc; "{TEST_FOLDER}/{}", entry.name.as_str())?)?;
-        }
-    }
-    Ok(paths)
-}
-
-/// Whether an entry is a file whose name begins with `test_` and ends in `.c`.
-fn is_test_file(entry: &Entry) -> bool
-    ensures { result ≡ is_test_entry entry.now }
-{
-    let name = entry.name.as_str().as_bytes();
-    !entry.folder && name.starts_with(b"test_") && name.ends_with(b".c")
+    let text = project_text(alloc, tree)?;
+    Ok(settings_of_text(alloc, text.as_slice())?)
 }

@@ -79,7 +79,7 @@ fn compare_file(
 
 #[test]
 fn projects_give_their_report_or_the_line_of_their_refusal(rt: HostRuntime) -> Result<(), Fail> {
-    let rows: [(&[File], Status, &[u8]); 8] = [
+    let rows: [(&[File], Status, &[u8]); 9] = [
         (
             &[("project.yml", b""), ("test/test_a.c", WORKED)],
             Status::Passed,
@@ -97,16 +97,21 @@ fn projects_give_their_report_or_the_line_of_their_refusal(rt: HostRuntime) -> R
             b"ERROR: project.yml:0: NoProject\n",
         ),
         (
-            &[("project.yml", b"\n"), ("test/test_a.c", WORKED)],
+            &[("project.yml", b":\n"), ("test/test_a.c", WORKED)],
             Status::Refused,
             b"ERROR: project.yml:1: Settings Yaml\n",
+        ),
+        (
+            &[("project.yml", b"# nothing\n"), ("test/test_a.c", WORKED)],
+            Status::Passed,
+            WORKED_REPORT,
         ),
         (
             &[
                 ("project.yml", b""),
                 ("src/test_z.c", b"int x;"),
                 ("test/other.c", b"int x;"),
-                ("test/sub/test_y.c", b"int x;"),
+                ("tests/test_y.c", b"int x;"),
                 ("test/test_x.h", b"int x;"),
                 ("test_w.c", b"int x;"),
             ],
@@ -146,6 +151,185 @@ OVERALL\n2 Tests 0 Failures 0 Ignored\nOK\n",
     Ok(())
 }
 
+/// A project file that removes a folder from the tests.
+const REMOVING: &[u8] = b":paths:\n  :test:\n    - test/**\n    - -:test/old/**\n";
+
+/// A project file as Ceedling's users have it.
+const LAMP: &[u8] = b"---
+:project:
+  :which_ceedling: gem
+  :use_mocks: TRUE
+  :build_root: build # output
+:paths:
+  :test:
+    - +:test/**
+    - -:test/support
+  :source:
+    - src/**
+  :libraries: []
+:defines:
+  :test:
+    - TEST
+:cmock:
+  :plugins:
+    - :ignore
+    - :callback
+:plugins:
+  :enabled:
+    - report_tests_pretty_stdout
+";
+
+const EMPTY_TEST: &[u8] = b"#include \"unity.h\"\nvoid test_three(void)\n{\n}\n";
+
+#[test]
+fn project_files_say_which_tests_are_run(rt: HostRuntime) -> Result<(), Fail> {
+    let rows: [(&[File], Status, &[u8]); 6] = [
+        (
+            &[
+                ("project.yml", REMOVING),
+                ("test/test_a.c", WORKED),
+                ("test/old/test_b.c", b"int x;"),
+                ("test/sub/test_c.c", EMPTY_TEST),
+            ],
+            Status::Passed,
+            b"test/sub/test_c.c:2:test_three:PASS\n\
+-----------------------\n1 Tests 0 Failures 0 Ignored\nOK\n\n\
+test/test_a.c:2:test_two:PASS\n\
+-----------------------\n1 Tests 0 Failures 0 Ignored\nOK\n\n\
+OVERALL\n2 Tests 0 Failures 0 Ignored\nOK\n",
+        ),
+        (
+            &[
+                ("project.yml", LAMP),
+                ("src/gpio.h", b"void gpio_write(int pin, int value);\n"),
+                ("test/support/test_s.c", b"int x;"),
+                ("test/test_a.c", WORKED),
+            ],
+            Status::Passed,
+            WORKED_REPORT,
+        ),
+        (
+            &[
+                ("project.yml", b":project:\n  :build_root: ./test/out/\n"),
+                ("test/out/test/test_old.c", b"int x;"),
+                ("test/out/test_old.c", b"int x;"),
+                ("test/test_a.c", WORKED),
+            ],
+            Status::Passed,
+            WORKED_REPORT,
+        ),
+        (
+            &[
+                ("project.yml", b":project:\n  :test_file_prefix: check\n"),
+                ("test/check.c", EMPTY_TEST),
+                ("test/test_a.c", b"int x;"),
+            ],
+            Status::Passed,
+            b"test/check.c:2:test_three:PASS\n\
+-----------------------\n1 Tests 0 Failures 0 Ignored\nOK\n\n\
+OVERALL\n1 Tests 0 Failures 0 Ignored\nOK\n",
+        ),
+        (
+            &[
+                ("project.yml", b":paths:\n  :test: .\n  :source: []\n"),
+                ("test_a.c", b"int x;"),
+            ],
+            Status::Refused,
+            b"ERROR: test_a.c:1: Unsupported int\n",
+        ),
+        (
+            &[
+                ("project.yml", b":paths:\n  :test: []\n"),
+                ("test/test_a.c", b"int x;"),
+            ],
+            Status::Passed,
+            NO_TESTS,
+        ),
+    ];
+    for (files, status, text) in rows {
+        compare(&rt, files, status, text)?;
+    }
+    Ok(())
+}
+
+#[test]
+fn the_first_refusal_in_order_is_the_one_given(rt: HostRuntime) -> Result<(), Fail> {
+    let alloc = rt.alloc();
+    let mut long = Vec::from_slice(alloc, b":")?;
+    long.extend_from_slice(blanks(alloc, 1048576)?.as_slice())?;
+    let long = long.as_slice();
+    let rows: [(&[File], &[u8]); 10] = [
+        (
+            &[("project.yml", long)],
+            b"ERROR: project.yml:0: Limit FileBytes\n",
+        ),
+        (
+            &[("project.yml", b":project:\n  :build_root: \"bui")],
+            b"ERROR: project.yml:2: Settings Yaml\n",
+        ),
+        (
+            &[("project.yml", b":paths:\n  :test:\n    - *common\n")],
+            b"ERROR: project.yml:3: Settings Yaml\n",
+        ),
+        (
+            &[("project.yml", b":project:\n  :build_root: /tmp\n:")],
+            b"ERROR: project.yml:3: Settings Yaml\n",
+        ),
+        (
+            &[
+                (
+                    "project.yml",
+                    b":cmock: a\n:project:\n  :build_root: /tmp\n",
+                ),
+                ("test/test_a.c", long),
+            ],
+            b"ERROR: project.yml:0: Settings :project: :build_root: BadValue\n",
+        ),
+        (
+            &[(
+                "project.yml",
+                b":cmock:\n  :enforce_strict_ordering: TRUE\n",
+            )],
+            b"ERROR: project.yml:0: Settings :cmock: :enforce_strict_ordering: BadValue\n",
+        ),
+        (
+            &[
+                ("project.yml", b""),
+                ("src/big.h", long),
+                ("test/a/test_x.c", b"int x;"),
+                ("test/b/test_x.c", b"int x;"),
+            ],
+            b"ERROR: src/big.h:0: Limit FileBytes\n",
+        ),
+        (
+            &[
+                ("project.yml", b""),
+                ("test/a/test_x.c", b"int x;"),
+                ("test/b/test_x.c", b"int x;"),
+                ("test/c/test_x.c", b"int x;"),
+            ],
+            b"ERROR: test/b/test_x.c:0: SameTest test_x.c\n",
+        ),
+        (
+            &[
+                ("project.yml", b""),
+                ("test/a/test_x.c", WORKED),
+                ("test/b/test_y.c", b"int x;"),
+                ("test/c/test_z.c", b"char c;"),
+            ],
+            b"ERROR: test/b/test_y.c:1: Unsupported int\n",
+        ),
+        (
+            &[("test/test_a.c", long)],
+            b"ERROR: project.yml:0: NoProject\n",
+        ),
+    ];
+    for (files, text) in rows {
+        compare(&rt, files, Status::Refused, text)?;
+    }
+    Ok(())
+}
+
 #[test]
 fn words_other_than_the_command_give_the_usage_line(rt: HostRuntime) -> Result<(), Fail> {
     let alloc = rt.alloc();
@@ -173,12 +357,13 @@ fn words_other_than_the_command_give_the_usage_line(rt: HostRuntime) -> Result<(
 fn a_failed_list_or_read_ends_the_run_and_writes_nothing(rt: HostRuntime) -> Result<(), Fail> {
     let alloc = rt.alloc();
     let files: [File; 2] = [("project.yml", b""), ("test/test_a.c", WORKED)];
-    let rows: [((TreeCall, u64), Status, &[u8]); 6] = [
+    let rows: [((TreeCall, u64), Status, &[u8]); 7] = [
         ((TreeCall::Read, 1), Status::ReadFault, b""),
         ((TreeCall::List, 1), Status::ReadFault, b""),
+        ((TreeCall::List, 2), Status::ReadFault, b""),
         ((TreeCall::Read, 2), Status::ReadFault, b""),
         ((TreeCall::Read, 3), Status::Passed, WORKED_REPORT),
-        ((TreeCall::List, 2), Status::Passed, WORKED_REPORT),
+        ((TreeCall::List, 3), Status::Passed, WORKED_REPORT),
         ((TreeCall::Write, 1), Status::Passed, WORKED_REPORT),
     ];
     for (call, status, text) in rows {
@@ -195,7 +380,7 @@ fn a_failed_list_or_read_ends_the_run_and_writes_nothing(rt: HostRuntime) -> Res
 fn test_files_give_their_lines_or_their_first_word_that_is_left(
     rt: HostRuntime,
 ) -> Result<(), Fail> {
-    let rows: [(&[u8], Status, &[u8]); 20] = [
+    let rows: [(&[u8], Status, &[u8]); 25] = [
         (b"", Status::Passed, NO_TESTS_IN_ONE_FILE),
         (
             b"#include \"unity.h\"",
@@ -296,6 +481,35 @@ OVERALL\n2 Tests 0 Failures 0 Ignored\nOK\n",
             Status::Refused,
             b"ERROR: test/test_a.c:2: Unsupported void\n",
         ),
+        (
+            b"// Unity\n#include \"unity.h\" /* and\nno more */\nvoid/**/test_two(void){ /* // */ }\n",
+            Status::Passed,
+            b"test/test_a.c:4:test_two:PASS\n\
+-----------------------\n1 Tests 0 Failures 0 Ignored\nOK\n\n\
+OVERALL\n1 Tests 0 Failures 0 Ignored\nOK\n",
+        ),
+        (
+            b"#inc\\\nlude \"unity.h\"\nvoid test_two(void) {\nTEST_ASSERT_EQUAL_INT(1, 1\\\n2);\n}\n",
+            Status::Failed,
+            b"test/test_a.c:4:test_two:FAIL: Expected 1 Was 12\n\
+-----------------------\n1 Tests 1 Failures 0 Ignored\nFAIL\n\n\
+OVERALL\n1 Tests 1 Failures 0 Ignored\nFAIL\n",
+        ),
+        (
+            b"#include \"unity.h\"\nvoid test_two(void)\n{\nTEST_ASSERT_EQUAL_INT(2, 2);\n}\n/*",
+            Status::Refused,
+            b"ERROR: test/test_a.c:6: Lex OpenComment\n",
+        ),
+        (
+            b"#include \"unity.h\"\n>>= 1\n",
+            Status::Refused,
+            b"ERROR: test/test_a.c:2: Unsupported >>=\n",
+        ),
+        (
+            b"#include \"unity.h\"\n\"a\\\"/*\" 1\n",
+            Status::Refused,
+            b"ERROR: test/test_a.c:2: Unsupported \"a\\\"/*\"\n",
+        ),
     ];
     for (source, status, text) in rows {
         compare_file(&rt, source, status, text)?;
@@ -353,8 +567,8 @@ fn a_file_has_at_most_a_mebibyte(rt: HostRuntime) -> Result<(), Fail> {
     compare(
         &rt,
         &[("project.yml", most.as_slice())],
-        Status::Refused,
-        b"ERROR: project.yml:1: Settings Yaml\n",
+        Status::Passed,
+        NO_TESTS,
     )?;
     compare(
         &rt,
@@ -437,7 +651,15 @@ fn nothing_is_listed_or_read_after_a_refusal_that_stops_the_run(
         ("test/test_a.c", long),
         ("test/test_b.c", WORKED),
     ];
-    let rows: [(&[File], (TreeCall, u64), &[u8]); 5] = [
+    let mut folder = String::from_str(alloc, "test")?;
+    for _ in 0..32 {
+        folder.push_str("/a")?;
+    }
+    let deep = format!(in alloc; "{folder}/test_a.c")?;
+    let too_deep_text = format!(in alloc; "ERROR: {folder}:0: Limit FolderDepth\n")?;
+    let too_deep: [File; 2] = [("project.yml", b""), (deep.as_str(), WORKED)];
+    let bad_setting: [File; 2] = [("project.yml", b":project: a"), ("test/test_a.c", WORKED)];
+    let rows: [(&[File], (TreeCall, u64), &[u8]); 7] = [
         (
             &no_project,
             (TreeCall::List, 1),
@@ -454,13 +676,19 @@ fn nothing_is_listed_or_read_after_a_refusal_that_stops_the_run(
             b"ERROR: project.yml:1: Settings Yaml\n",
         ),
         (
+            &bad_setting,
+            (TreeCall::List, 1),
+            b"ERROR: project.yml:0: Settings :project: NotMap\n",
+        ),
+        (&too_deep, (TreeCall::List, 33), too_deep_text.as_bytes()),
+        (
             &too_long,
             (TreeCall::Read, 3),
             b"ERROR: test/test_a.c:0: Limit FileBytes\n",
         ),
         (
             &too_long,
-            (TreeCall::List, 2),
+            (TreeCall::List, 3),
             b"ERROR: test/test_a.c:0: Limit FileBytes\n",
         ),
     ];

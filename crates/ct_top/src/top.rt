@@ -1,23 +1,28 @@
 //! The top call.
 
-ghost use Rattle.std.specs.Prelude.{◌≡◌, ◌⊎◌, ◌++◌, List, ℕ, Some, IfOk, IfErr};
+ghost use Rattle.std.specs.Prelude.{◌≡◌, ◌⊎◌, ◌++◌, ◌≤◌, List, ℕ, Some, IfOk, IfErr, length};
+ghost use Rattle.std.specs.FinMap.{get};
+ghost use Rattle.ct_base.specs.Answers.{IfFault};
 ghost use Rattle.ct_base.specs.declared.answers.Status.TheVariants.{Passed, Failed, Refused, ReadFault, WriteFault, OutFault, OutOfMemory, Usage};
+ghost use Rattle.ct_find.specs.Limits.{most_file_bytes};
 ghost use Rattle.ct_outside.specs.Counts.{Rose};
-ghost use Rattle.ct_outside.specs.Files.{Files};
+ghost use Rattle.ct_outside.specs.Files as outside;
 ghost use Rattle.ct_outside.specs.Taken.{Took};
 ghost use Rattle.ct_report.specs.Report.{report_of};
-ghost use Rattle.ct_top.specs.Project.{HasOutcome, Outcome, output_of, status_after};
+ghost use Rattle.ct_top.specs.Project.{HasOutcome, Outcome, TestsMean, output_of, status_after};
 ghost use Rattle.ct_top.specs.Stops.{AnswerFaultsAfter, Ends, FaultsAfter, IfRefused, ReadFaultsAfter, SinkFaultsAfter, WriteFaultsAfter};
 ghost use Rattle.ct_top.specs.Words.{IsTestAll, usage_line};
 
-use crate::files::read_files;
-use crate::project::{check_project_file, test_paths};
+use crate::names::check_names;
+use crate::project::project_settings;
 use crate::refusing::refusal_text;
+use crate::searching::search;
 use crate::stops::Stop;
 use crate::translating::run_files;
 use crate::words::is_test_all;
 use crate::writing::finish;
-use ct_base::{Mem, Status};
+use ct_base::{Mem, Out, Refusal, Status};
+use ct_find::Files;
 use ct_outside::{Sink, Tree};
 use ct_report::{RunLog, footer, lines, status, summary};
 use std::alloc::Global;
@@ -32,7 +37,7 @@ pub fn run<T: Tree, S: Sink>(alloc: Global, words: &[String], tree: &mut T, out:
     // For every project: the sink took exactly the report, or the line of the first refusal, and the status is
     // exactly that of the project's meaning, where the tree tells its files, the sink tells what it took, no
     // count of faults rose and memory was there.
-    ensures report { (files : Files) (before : List ℕ) → IsTestAll words.now
+    ensures report { (files : outside.Files) (before : List ℕ) → IsTestAll words.now
         → T.files tree.old ≡ Some files → S.taken out.old ≡ Some before
         → (Rose (T.read_faults tree.old) (T.read_faults tree.new) → ⊥)
         → (Rose (T.write_faults tree.old) (T.write_faults tree.new) → ⊥)
@@ -45,7 +50,7 @@ pub fn run<T: Tree, S: Sink>(alloc: Global, words: &[String], tree: &mut T, out:
     // sink failed. Where the tree tells its files, the outcome is the project's.
     ensures outcome { IsTestAll words.now → (result ≡ ReadFault → ⊥) → (result ≡ OutOfMemory → ⊥)
         → (outcome : Outcome) × Ends result (S.taken out.old) (S.taken out.new) (output_of outcome) (status_after outcome)
-        × ((files : Files) → T.files tree.old ≡ Some files → HasOutcome files outcome) }
+        × ((files : outside.Files) → T.files tree.old ≡ Some files → HasOutcome files outcome) }
 
     // The usage line comes exactly where the words are no command, and then nothing else does.
     ensures usage { (IsTestAll words.now → ⊥) → Ends result (S.taken out.old) (S.taken out.new) usage_line Usage }
@@ -81,7 +86,7 @@ struct Answer {
 /// The answer to `test:all`, or the status of a run that ends before anything is written.
 fn answer_to<T: Tree>(alloc: Global, tree: &mut T) -> Result<Answer, Status>
     ensures ok { IfOk result (λ answer. (outcome : Outcome) × (answer.text.items ≡ output_of outcome) × (answer.status ≡ status_after outcome)
-        × ((files : Files) → T.files tree.old ≡ Some files → HasOutcome files outcome)) }
+        × ((files : outside.Files) → T.files tree.old ≡ Some files → HasOutcome files outcome)) }
     ensures err { IfErr result (λ status. (status ≡ ReadFault) ⊎ (status ≡ OutOfMemory)) }
     ensures faults { AnswerFaultsAfter result (T.read_faults tree.old) (T.read_faults tree.new) }
     ensures write_faults { T.write_faults tree.new ≡ T.write_faults tree.old }
@@ -113,16 +118,25 @@ fn answer_to<T: Tree>(alloc: Global, tree: &mut T) -> Result<Answer, Status>
 
 /// The logs of the tests of a project, or why there are none.
 fn logs_of_project<T: Tree>(alloc: Global, tree: &mut T) -> Result<Vec<RunLog>, Stop>
-    ensures ok { (files : Files) → T.files tree.old ≡ Some files → IfOk result (λ logs. HasOutcome files (Ok logs.items)) }
-    ensures refused { (files : Files) → T.files tree.old ≡ Some files → IfRefused result (λ refusal. HasOutcome files (Err refusal)) }
+    ensures ok { (files : outside.Files) → T.files tree.old ≡ Some files → IfOk result (λ logs. HasOutcome files (Ok logs.items)) }
+    ensures refused { (files : outside.Files) → T.files tree.old ≡ Some files → IfRefused result (λ refusal. HasOutcome files (Err refusal)) }
     ensures same_files { T.files tree.new ≡ T.files tree.old }
     ensures faults { FaultsAfter result (T.read_faults tree.old) (T.read_faults tree.new) }
     ensures write_faults { T.write_faults tree.new ≡ T.write_faults tree.old }
 {
-    check_project_file(alloc, tree)?;
-    let paths = test_paths(alloc, tree)?;
-    let files = read_files(alloc, tree, paths.as_slice())?;
-    Ok(run_files(alloc, files.as_slice())?)
+    let settings = project_settings(alloc, tree)?;
+    let files = search(alloc, tree, &settings)?;
+    Ok(logs_of_tests(alloc, &files)?)
+}
+
+/// The logs of the test files that were found.
+fn logs_of_tests(alloc: Global, files: &Files) -> Out<Vec<RunLog>, Refusal>
+    requires { (path text : List ℕ) → get files.now.texts path ≡ Some text → length text ≤ most_file_bytes }
+    ensures ok { IfOk result (λ logs. TestsMean files.now.texts files.now.tests (Ok logs.items)) }
+    ensures refused { IfFault result (λ refusal. TestsMean files.now.texts files.now.tests (Err refusal)) }
+{
+    check_names(alloc, files.tests.as_slice())?;
+    run_files(alloc, &files.texts, files.tests.as_slice())
 }
 
 /// The whole report of the logs.

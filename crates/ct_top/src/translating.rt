@@ -1,30 +1,39 @@
 //! From the bytes of test files to their logs.
 
-ghost use Rattle.std.specs.Prelude.{◌≡◌, ◌≤◌, All, IfOk, Result, length};
+ghost use Rattle.std.specs.Prelude.{◌≡◌, ◌≤◌, ℕ, List, Some, IfOk, Result, length};
+ghost use Rattle.std.specs.FinMap.{get};
 ghost use Rattle.ct_base.specs.Answers.{IfFault, OnAnswer};
 ghost use Rattle.ct_base.specs.declared.lexical.Token.{Token as token};
 ghost use Rattle.ct_top.specs.Meaning.{FileMeans, TokensMean};
-ghost use Rattle.ct_top.specs.Project.{FilesMean, file_bytes};
+ghost use Rattle.ct_find.specs.Limits.{most_file_bytes};
+ghost use Rattle.ct_top.specs.Project.{FilesMean, text_at};
 
-use crate::files::TestFile;
 use crate::form::next;
 use crate::items::read_items;
-use crate::refusing::unsupported;
+use crate::refusing::{open_comment, unsupported};
 use crate::running::run_tests;
 use ct_base::{Fail, Items, Out, Refusal, Text, Token};
+use ct_outside::Finder;
 use ct_report::RunLog;
 use ct_token::tokens;
 use std::alloc::Global;
 
+/// The text of a file.
+fn text_at<'a, F: Finder>(finder: &'a F, path: &str) -> &'a [u8]
+    ensures { result.now ≡ text_at (F.texts finder.now) path.now }
+{
+    finder.get(path).unwrap_or(&[])
+}
+
 /// The logs of test files in order, or the refusal of the first that is refused.
-pub fn run_files(alloc: Global, files: &[TestFile]) -> Out<Vec<RunLog>, Refusal>
-    requires { All (λ file. length file.text ≤ file_bytes) files.now }
-    ensures ok { IfOk result (λ logs. FilesMean files.now (Ok logs.items)) }
-    ensures refused { IfFault result (λ refusal. FilesMean files.now (Err refusal)) }
+pub fn run_files<F: Finder>(alloc: Global, finder: &F, paths: &[Text]) -> Out<Vec<RunLog>, Refusal>
+    requires { (path text : List ℕ) → get (F.texts finder.now) path ≡ Some text → length text ≤ most_file_bytes }
+    ensures ok { IfOk result (λ logs. FilesMean (F.texts finder.now) paths.now (Ok logs.items)) }
+    ensures refused { IfFault result (λ refusal. FilesMean (F.texts finder.now) paths.now (Err refusal)) }
 {
     let mut logs = Vec::new(alloc);
-    for file in files {
-        match run_file(alloc, file.path.as_str(), file.text.as_slice()) {
+    for path in paths {
+        match run_file(alloc, path.as_str(), text_at(finder, path.as_str())) {
             Ok(log) => logs.push(log)?,
             Err(fail) => return Err(fail),
         }
@@ -34,13 +43,13 @@ pub fn run_files(alloc: Global, files: &[TestFile]) -> Out<Vec<RunLog>, Refusal>
 
 /// The log of a test file, or why it is refused.
 fn run_file(alloc: Global, path: &str, text: &[u8]) -> Out<RunLog, Refusal>
-    requires { length text.now ≤ file_bytes }
+    requires { length text.now ≤ most_file_bytes }
     ensures { OnAnswer result (FileMeans path.now text.now) }
 {
     match tokens(alloc, 0, text) {
         Ok(tokens) => run_tokens(alloc, path, tokens.as_slice()),
         Err(Fail::OutOfMemory) => Err(Fail::OutOfMemory),
-        Err(Fail::Fault(_)) => unreachable!(),
+        Err(Fail::Fault(fault)) => Err(Fail::Fault(open_comment(alloc, path, fault.line)?)),
     }
 }
 
