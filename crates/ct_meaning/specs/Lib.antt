@@ -1,0 +1,8 @@
+pub mod Doing
+pub mod World
+pub mod Rules
+pub mod Meaning
+pub mod Program
+pub mod Written
+pub mod Runner
+pub mod Views
