@@ -1,0 +1,5 @@
+pub mod Frames
+pub mod Steps
+pub mod Reading
+pub mod Parses
+pub mod Terminals

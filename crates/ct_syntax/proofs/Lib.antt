@@ -1,0 +1,3 @@
+mod Examples
+pub mod Views
+pub mod UnitViews

@@ -1,0 +1,13 @@
+pub mod Words
+pub mod Trees
+pub mod Spelling
+pub mod Scopes
+pub mod TypeWords
+pub mod Grammar
+pub mod Depths
+pub mod Views
+pub mod UnitViews
+pub mod Units
+pub mod Places
+pub mod UnitPlaces
+pub mod Lists
