@@ -30,7 +30,7 @@ pub enum TokenKind {
 }
 
 /// A preprocessing token: its bytes, the place of its first byte, and whether white space
-/// other than a new-line stands right before it.
+/// other than a new-line, or a comment, stands right before it (C11 6.4p3).
 #[derive(Debug, Drop)]
 pub struct Token {
     pub kind: TokenKind,

@@ -2,7 +2,7 @@
 
 use crate::texts::{Bytes, Text};
 
-/// A refusal of a project. `kind` is the number of its kind, from 1, in the order of refusals.
+/// A refusal of a project. `kind` is the number of its kind, from 1.
 /// `line` counts from 1, and is 0 where no line is named.
 #[derive(Debug, Drop)]
 pub struct Refusal {

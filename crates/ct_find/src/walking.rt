@@ -232,7 +232,7 @@ fn visit<T: Tree>(
     Ok(())
 }
 
-/// Lists the folders of all starts, the next of which is the last of the list. After 2 ^ 64 visits,
+/// Lists the folders of all starts, the next of which is the last of the list. After 2 ^ 64 - 1 turns,
 /// which no tree that ends makes necessary, it gives up as it does for want of memory.
 pub fn walk<T: Tree>(
     alloc: Global,

@@ -29,7 +29,7 @@ project_path = codes "project.yml"
 
 -- ---- refusals
 
--- the numbers of kinds of refusals, in the order in which they come
+-- the numbers of kinds of refusals
 abbrev pub absent_kind : ℕ
 absent_kind = 1
 

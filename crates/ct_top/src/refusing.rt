@@ -10,7 +10,7 @@ use ct_base::{Bytes, LimitKind, Mem, Refusal, Text, Token, decimal};
 use ct_settings::{SettingFault, SettingKind};
 use std::alloc::Global;
 
-/// The number of each kind of refusal, in the order of refusals.
+/// The number of each kind of refusal.
 const NO_PROJECT: u32 = 1;
 
 const SETTINGS: u32 = 2;
