@@ -4,3 +4,4 @@ mod NamedLemmas
 mod PathLemmas
 mod PathsLemmas
 mod StoredLemmas
+mod TextsLemmas

@@ -3,31 +3,30 @@
 ghost use Rattle.std.specs.Prelude.{◌≡◌, OnOk, OnErr};
 ghost use Rattle.std.specs.Option.{option_copied};
 ghost use Rattle.std.specs.FinMap.{empty, get, insert};
-ghost use Rattle.ct_outside.specs.Stored.{files_of};
 
 use crate::finder::Finder;
-use crate::stored::{StoredFile, bytes_at, set_file};
-use ct_base::Mem;
+use ct_base::{Bytes, Mem};
 use std::alloc::Global;
+use std::collections::BTreeMap;
 use std::marker::Model;
 
 /// Texts by their paths.
 #[derive(Debug, Drop)]
 pub struct Texts {
     alloc: Global,
-    files: Vec<StoredFile>,
+    files: BTreeMap<String, Bytes>,
 }
 
 impl Model for Texts {
     ghost use Rattle.ct_outside.specs.Files.{Files};
     ghost use Rattle.ct_outside.specs.TreeState.{files_code};
-    ghost use Rattle.ct_outside.specs.Stored.{files_of};
+    ghost use Rattle.ct_outside.specs.Stored.{texts_of};
 
     ghost Value = { Files };
 
     ghost coded = { files_code };
 
-    ghost view = { λ texts. files_of texts.files.items };
+    ghost view = { λ texts. texts_of texts.files.entries };
 }
 
 impl Texts {
@@ -36,23 +35,28 @@ impl Texts {
     {
         Texts {
             alloc,
-            files: Vec::new(alloc),
+            files: BTreeMap::new(alloc),
         }
     }
 
     /// Sets the text at a path.
+    #[tactic(auto, using(crate::proofs::TextsLemmas::put_texts))]
     pub fn put(&mut self, path: &str, text: &[u8]) -> Mem<()>
         ensures ok { OnOk result (self.new ≡ insert self.old path.now text.now) }
         ensures err { OnErr result (self.new ≡ self.old) }
     {
-        set_file(self.alloc, &mut self.files, path, text)
+        let key = String::from_str(self.alloc, path)?;
+        let text = Bytes::from_slice(self.alloc, text)?;
+        self.files.insert(key, text)?;
+        Ok(())
     }
 }
 
 impl Finder for Texts {
     ghost texts = { λ texts. texts };
 
+    #[tactic(auto, using(crate::proofs::TextsLemmas::get_texts))]
     fn get(&self, path: &str) -> Option<&[u8]> {
-        bytes_at(&self.files, path)
+        Some(self.files.get(path)?.as_slice())
     }
 }

@@ -1,6 +1,10 @@
 -- Base names.
-use Rattle.std.proofs.Common.{◌≡◌, ℕ, ◌+◌, ◌<◌, Bool, true, false, cond, List, [], ◌∷◌, ◌++◌, map, length, take, drop, get_or, refl, sym, ap, subst, ◌∙◌, ⊎_elim}
+use Rattle.std.proofs.Common.{◌≡◌, not, Bor, Ordering, ◌||◌, ℕ, ◌+◌, ◌<◌, Bool, true, false, cond, List, [], ◌∷◌, ◌++◌, map, length, take, drop, get_or, refl, sym, ap, subst, ◌∙◌, ⊎_elim}
 use Rattle.std.specs.List.{Contains, list_any}
+use Rattle.std.specs.Ordering.{nat_cmp}
+use Rattle.std.specs.Cmp.Lexicographic.{slice_cmp}
+use Rattle.std.specs.BTreeSet.{BTreeSet, contains, Updates}
+use Rattle.std.proofs.lemmas.Map.Text.{is_eq-slice_cmp}
 use Rattle.std.specs.Str.{bytes_eq}
 use Rattle.std.proofs.lemmas.Bool.{or_cases, or_left, or_right, false≢true}
 use Rattle.std.proofs.lemmas.List.{take_more, take-append-drop}
@@ -19,6 +23,20 @@ own_name [] = refl
 own_name (byte ∷ bytes) = twice (list_any is_slash (byte ∷ bytes)) (base_name bytes) (byte ∷ bytes)
 
 -- ---- names that stand before
+
+either_end : (b : Bool) → b || false ≡ cond b true false
+either_end true = refl
+either_end false = refl
+
+moved : (a b c : Bool) → a || cond b true c ≡ cond b true (a || c)
+moved true true c = refl
+moved true false c = refl
+moved false true c = refl
+moved false false c = refl
+
+-- the order of names in a set
+abbrev pub name_cmp : Bor (List ℕ) → Bor (List ℕ) → Ordering
+name_cmp x y = slice_cmp nat_cmp x.now y.now
 
 abbrev pub has_name : List ℕ → List (List ℕ) → Bool
 has_name name paths = list_any (λ path. bytes_eq (base_name path) name) paths
@@ -53,6 +71,32 @@ once_push {A} (y ∷ ys) x new once =
 map_append : (xs ys : List (List ℕ)) → map base_name (xs ++ ys) ≡ map base_name xs ++ map base_name ys
 map_append [] ys = refl
 map_append (x ∷ xs) ys = ap (λ zs. base_name x ∷ zs) (map_append xs ys)
+
+-- ---- a set of names
+
+pub not_of_false : (b : Bool) → not b ≡ false → b ≡ true
+not_of_false true e = refl
+not_of_false false e = absurd (false≢true (sym e))
+
+pub not_of_true : (b : Bool) → not b ≡ true → b ≡ false
+not_of_true true e = absurd (false≢true e)
+not_of_true false e = refl
+
+-- the set has the names of these paths
+abbrev pub HasNames : BTreeSet (Bor (List ℕ)) → List (List ℕ) → Type 0
+HasNames names paths = (q : Bor (List ℕ)) → contains name_cmp names q ≡ has_name q.now paths
+
+has_name_more : (q : List ℕ) (xs : List (List ℕ)) (p : List ℕ) → has_name q (xs ++ p ∷ []) ≡ cond (bytes_eq (base_name p) q) true (has_name q xs)
+has_name_more q [] p = either_end (bytes_eq (base_name p) q)
+has_name_more q (x ∷ xs) p =
+    ap (λ (b : Bool). bytes_eq (base_name x) q || b) (has_name_more q xs p) ∙ moved (bytes_eq (base_name x) q) (bytes_eq (base_name p) q) (has_name q xs)
+
+-- one more name
+pub names_more : (old new : BTreeSet (Bor (List ℕ))) (name : Bor (List ℕ)) (xs : List (List ℕ)) (path : List ℕ) → name.now ≡ base_name path
+    → Updates name_cmp old new name true → HasNames old xs → HasNames new (xs ++ path ∷ [])
+names_more old new name xs path is updates has q =
+    updates.0 q ∙ ap (λ (b : Bool). cond b true (contains name_cmp old q)) (is_eq-slice_cmp name.now q.now ∙ ap (λ n. bytes_eq n q.now) is)
+    ∙ ap (cond (bytes_eq (base_name path) q.now) true) (has q) ∙ sym (has_name_more q.now xs path)
 
 -- one more path has a name of its own
 pub apart_more : (paths : List (List ℕ)) (i : ℕ) (path : List ℕ) → i < length paths → path ≡ get_or paths i path

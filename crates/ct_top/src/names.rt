@@ -1,8 +1,6 @@
 //! The names of test files.
 
 ghost use Rattle.std.specs.Prelude.{◌≡◌, [], ◌∷◌, List, ℕ, MatchOption, OnOk, map};
-ghost use Rattle.std.specs.List.{list_any};
-ghost use Rattle.std.specs.Str.{bytes_eq};
 ghost use Rattle.ct_base.specs.Answers.{IfFault};
 ghost use Rattle.ct_outside.specs.Files.{EachOnce};
 ghost use Rattle.ct_top.specs.Project as spec;
@@ -10,6 +8,7 @@ ghost use Rattle.ct_top.specs.Project as spec;
 use crate::refusing::same_test;
 use ct_base::{Fail, Out, Refusal, Text};
 use std::alloc::Global;
+use std::collections::BTreeSet;
 
 fn first_of(bytes: &[u8]) -> Option<(u8, &[u8])>
     ensures { MatchOption result (bytes.now ≡ []) (λ found. bytes.now ≡ found.0 ∷ found.1.now) }
@@ -34,23 +33,17 @@ pub fn base_name(path: &[u8]) -> &[u8]
     name
 }
 
-/// Whether one of these paths has a base name.
-fn has_name(paths: &[Text], name: &[u8]) -> bool
-    ensures { result ≡ list_any (λ path. bytes_eq (spec.base_name path) name.now) paths.now }
-{
-    paths
-        .iter()
-        .any(|path| base_name(path.as_str().as_bytes()) == name)
-}
-
 /// Refuses the first of these paths whose base name an earlier one has.
 pub fn check_names(alloc: Global, paths: &[Text]) -> Out<(), Refusal>
     ensures ok { OnOk result (EachOnce (map spec.base_name paths.now)) }
     ensures refused { IfFault result (λ refusal. (path : List ℕ) × spec.IsSameTest paths.now path × (refusal ≡ spec.same_test path)) }
 {
-    for (place, path) in paths.iter().enumerate() {
-        if has_name(&paths[..place], base_name(path.as_str().as_bytes())) {
-            return Err(Fail::Fault(same_test(alloc, path.as_str())?));
+    let mut names = BTreeSet::new(alloc);
+    for path in paths {
+        match names.insert(base_name(path.as_str().as_bytes())) {
+            Ok(true) => {}
+            Ok(false) => return Err(Fail::Fault(same_test(alloc, path.as_str())?)),
+            Err(_) => return Err(Fail::OutOfMemory),
         }
     }
     Ok(())

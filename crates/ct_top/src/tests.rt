@@ -578,6 +578,37 @@ fn a_file_has_at_most_a_mebibyte(rt: HostRuntime) -> Result<(), Fail> {
     )
 }
 
+/// A comment of so many bytes.
+fn comment(alloc: Global, bytes: usize) -> Result<Vec<u8>, Fail> {
+    let mut text = Vec::from_slice(alloc, b"/*")?;
+    text.resize(bytes.saturating_sub(2), b'*')?;
+    text.extend_from_slice(b"*/")?;
+    Ok(text)
+}
+
+#[test]
+fn a_header_of_a_mebibyte_that_is_one_comment_is_read(rt: HostRuntime) -> Result<(), Fail> {
+    let most = comment(rt.alloc(), 1048576)?;
+    let more = comment(rt.alloc(), 1048577)?;
+    let rows: [(&[u8], Status, &[u8]); 2] = [
+        (most.as_slice(), Status::Passed, WORKED_REPORT),
+        (
+            more.as_slice(),
+            Status::Refused,
+            b"ERROR: src/big.h:0: Limit FileBytes\n",
+        ),
+    ];
+    for (header, status, text) in rows {
+        let files = [
+            ("project.yml", b"".as_slice()),
+            ("src/big.h", header),
+            ("test/test_a.c", WORKED),
+        ];
+        compare(&rt, &files, status, text)?;
+    }
+    Ok(())
+}
+
 #[test]
 fn a_file_has_at_most_a_thousand_tests(rt: HostRuntime) -> Result<(), Fail> {
     let alloc = rt.alloc();
