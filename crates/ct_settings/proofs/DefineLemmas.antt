@@ -85,9 +85,9 @@ pub inserted_name : (ks : List Name) (k : Name) (name : List ℕ)
 inserted_name [] k name = refl
 inserted_name (x ∷ ks) k name =
     elim (slice_cmp nat_cmp k.items x.items) as (λ o. slice_cmp nat_cmp k.items x.items ≡ o
-        → list_any (λ other. bytes_eq other.items name) (match_ordering o (k ∷ x ∷ ks) (x ∷ ks) (x ∷ insert_key (λ y z. slice_cmp nat_cmp y.items z.items) ks k))
-        ≡ (bytes_eq k.items name || (bytes_eq x.items name || list_any (λ other. bytes_eq other.items name) ks))) [
-      Less ↦ λ e. refl
-    | Equal ↦ λ e. absorbed (bytes_eq k.items name) (bytes_eq x.items name) (list_any (λ other. bytes_eq other.items name) ks) (ap (λ bs. bytes_eq bs name) (exact_bytes k.items x.items e))
-    | Greater ↦ λ e. ap (λ b. bytes_eq x.items name || b) (inserted_name ks k name) ∙ turned (bytes_eq k.items name) (bytes_eq x.items name) (list_any (λ other. bytes_eq other.items name) ks)
+    → list_any (λ other. bytes_eq other.items name) (match_ordering o (k ∷ x ∷ ks) (x ∷ ks) (x ∷ insert_key (λ y z. slice_cmp nat_cmp y.items z.items) ks k))
+    ≡ (bytes_eq k.items name || (bytes_eq x.items name || list_any (λ other. bytes_eq other.items name) ks))) [
+      | Less ↦ λ e. refl
+      | Equal ↦ λ e. absorbed (bytes_eq k.items name) (bytes_eq x.items name) (list_any (λ other. bytes_eq other.items name) ks) (ap (λ bs. bytes_eq bs name) (exact_bytes k.items x.items e))
+      | Greater ↦ λ e. ap (λ b. bytes_eq x.items name || b) (inserted_name ks k name) ∙ turned (bytes_eq k.items name) (bytes_eq x.items name) (list_any (λ other. bytes_eq other.items name) ks)
     ] refl

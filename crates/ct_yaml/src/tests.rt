@@ -333,6 +333,8 @@ fn long_texts_and_lines(rt: HostRuntime) -> Result<(), TestFail> {
         ("a: \"", "\\\"", 524_288, "", "line 1"),
         ("a:\n", "- ", 524_288, "b", "line 2"),
         ("", " ", 1_048_576, "a: b", "{a=<b>;}"),
+        ("", "a: b\n", 209_716, "c", "line 209717"),
+        ("a:\n", "- b\n", 262_144, "c", "line 262146"),
     ];
     for (front, piece, times, end, wanted) in rows {
         let text = long(rt.alloc(), front, piece, times, end)?;
