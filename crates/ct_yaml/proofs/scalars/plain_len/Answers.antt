@@ -1,4 +1,4 @@
-use Rattle.std.proofs.Common.{◌≡◌, ◌∷◌, true, false, arith, length, sym, ap, ◌∙◌}
+use Rattle.std.proofs.Common.{◌≡◌, ◌∷◌, false, arith, length, sym, ap, ◌∙◌}
 use Rattle.ct_yaml.specs.Reading.{is_stop, plain_len}
 use Rattle.ct_yaml.proofs.Scan.{plain_more, counts_behind}
 use Rattle.ct_yaml.proofs.scalars.plain_len.Goals as goal
