@@ -4,3 +4,4 @@ pub mod Values
 pub mod Rows
 pub mod Table
 pub mod Places
+pub mod Seen

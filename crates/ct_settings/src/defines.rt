@@ -1,15 +1,17 @@
 //! Macros that a project file defines.
 
-ghost use Rattle.std.specs.Prelude.{◌≡◌, ◌∷◌, ◌<◌, ◌≤◌, drop, length, MatchOption, position, IfOk, IfSome};
-ghost use Rattle.std.specs.List.{list_any, before_first, after_first};
+ghost use Rattle.std.specs.Prelude.{◌≡◌, ◌<◌, ◌||◌, ℕ, List, length, not, position, IfOk, IfSome};
+ghost use Rattle.std.specs.Str.{bytes_eq};
 ghost use Rattle.ct_yaml.specs.Line as line;
 ghost use Rattle.ct_settings.specs.Names as spec;
+ghost use Rattle.ct_settings.specs.Seen.{has_name};
 
 use crate::names::is_identifier;
 use crate::record::Define;
 use crate::texts::{behind, first_of};
 use ct_base::{Bytes, Items, Mem};
 use std::alloc::Global;
+use std::collections::BTreeSet;
 
 /// Whether the second byte stands right behind the first somewhere.
 fn has_pair(first: u8, second: u8, text: &[u8]) -> bool
@@ -79,34 +81,27 @@ pub fn define(alloc: Global, text: &[u8]) -> Mem<Option<Define>>
     Ok(Some(Define { name, text }))
 }
 
-fn is_defined(name: &[u8], defines: &[Define]) -> bool
-    ensures { result ≡ spec.is_defined name.now defines.now }
+/// Whether a name is new to the names so far, to which it is added.
+fn is_new(alloc: Global, name: &[u8], names: &mut BTreeSet<Vec<u8>>) -> Mem<bool>
+    ensures { IfOk result (λ new. (new ≡ not (has_name names.old name.now))
+        × ((other : List ℕ) → has_name names.new other ≡ bytes_eq name.now other || has_name names.old other)) }
 {
-    defines.iter().any(|define| define.name.as_slice() == name)
+    let name = Vec::from_slice(alloc, name)?;
+    Ok(names.insert(name)?)
 }
 
-/// The define at a place, and those behind it.
-fn first_from(defines: &[Define], place: usize) -> Option<(&Define, &[Define])>
-    ensures { MatchOption result (length defines.now ≤ place)
-        (λ found. (place < length defines.now) × (drop place defines.now ≡ found.0.now ∷ found.1.now)) }
+/// The defines without each whose name stands again behind it.
+pub fn keep_last(alloc: Global, defines: Items<Define>) -> Mem<Items<Define>>
+    ensures { IfOk result (λ kept. kept ≡ spec.last_defines defines) }
 {
-    if place >= defines.len() {
-        return None;
-    }
-    defines[place..].split_first()
-}
-
-/// Removes each define whose name stands again behind it.
-#[tactic(auto, using(crate::proofs::DefineLemmas::keep_rules))]
-pub fn keep_last(defines: &mut Items<Define>)
-    ensures { defines.new ≡ spec.last_defines defines.old }
-{
-    let mut place = 0;
-    while let Some((define, rest)) = first_from(defines.as_slice(), place) {
-        if is_defined(define.name.as_slice(), rest) {
-            defines.remove(place);
-        } else {
-            place += 1;
+    let mut left = defines;
+    let mut names = BTreeSet::new(alloc);
+    let mut kept = Vec::new(alloc);
+    while let Some(define) = left.pop() {
+        if is_new(alloc, define.name.as_slice(), &mut names)? {
+            kept.push(define)?;
         }
     }
+    kept.reverse();
+    Ok(Items::from_vec(kept))
 }

@@ -2,6 +2,8 @@
 #![tactic(auto)]
 
 mod defines;
+#[cfg(test)]
+mod file_tests;
 mod names;
 mod paths;
 mod record;

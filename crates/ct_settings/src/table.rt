@@ -73,8 +73,7 @@ fn defines_of(alloc: Global, node: &Node) -> Out<Items<Define>, SettingFault>
     let mut all = defines.defines(alloc, ":common", Items::new(alloc))?;
     let test = defines.defines(alloc, ":test", Items::new(alloc))?;
     all.append(test)?;
-    keep_last(&mut all);
-    Ok(all)
+    Ok(keep_last(alloc, all)?)
 }
 
 fn cmock_of(alloc: Global, node: &Node) -> Out<Cmock, SettingFault>

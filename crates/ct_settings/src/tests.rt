@@ -99,16 +99,17 @@ fn show_node(alloc: Global, node: &Node, part: &str) -> Mem<Vec<u8>> {
     Ok(shown)
 }
 
-/// A part of the settings of a project file, or their refusal.
-#[tactic(auto, using(ct_yaml::proofs::CutLemmas::text_lines_few))]
-fn outcome(alloc: Global, text: &[u8], part: &str) -> Mem<Vec<u8>> {
+/// A part of the settings of a project file, or their refusal, or the line that is refused.
+pub fn outcome(alloc: Global, text: &[u8], part: &str) -> Mem<Vec<u8>> {
     let mut shown = Vec::new(alloc);
-    if text.len() > 1_000_000 {
-        return Ok(shown);
-    }
     match read(alloc, text) {
         Ok(node) => return show_node(alloc, &node, part),
-        Err(_) => shown.extend_from_slice(b"no YAML")?,
+        Err(Fail::Fault(fault)) => {
+            let line = fault.line;
+            let refused = format!(in alloc; "line {line}")?;
+            shown.extend_from_slice(refused.as_bytes())?;
+        }
+        Err(Fail::OutOfMemory) => shown.extend_from_slice(b"out of memory")?,
     }
     Ok(shown)
 }
@@ -209,6 +210,17 @@ fn the_section_project(rt: HostRuntime) -> Result<(), TestFail> {
             "root",
             ":project: :test_file_prefix: NotText",
         ),
+        (":project:\n  :test_file_prefix:", "prefix", "test_"),
+        (
+            ":project:\n  :test_file_prefix: {}",
+            "prefix",
+            ":project: :test_file_prefix: NotText",
+        ),
+        (
+            ":project:\n  :build_root: a/..\n  :test_file_prefix: []",
+            "root",
+            ":project: :build_root: BadValue",
+        ),
         (":project: a", "root", ":project: NotMap"),
         (":project: []", "root", ":project: NotMap"),
         (
@@ -279,6 +291,10 @@ fn the_section_paths(rt: HostRuntime) -> Result<(), TestFail> {
             "",
             ":paths: :support: BadValue",
         ),
+        (":paths:\n  :include: {}", "", ":paths: :include: NotList"),
+        (":paths:\n  :support: {}", "", ":paths: :support: NotList"),
+        (":paths:\n  :support:", "support", ""),
+        (":paths:\n  :include: a/*/b?", "include", "+a/*/b?,"),
         (":paths: {}", "test", "+test/**,"),
         (":paths: a", "", ":paths: NotMap"),
         (
@@ -385,6 +401,14 @@ fn the_section_defines(rt: HostRuntime) -> Result<(), TestFail> {
             "",
             ":defines: :test: NotList",
         ),
+        (":defines: {}", "defines", ""),
+        (":defines:\n  :common: []\n  :test:", "defines", ""),
+        (
+            ":defines:\n  :common: [A=1, B=1, A=2]\n  :test: [B=2, C, B=3]",
+            "defines",
+            "A=2,C=1,B=3,",
+        ),
+        (":defines:\n  :other: {}", "defines", ""),
         (":defines: [A]", "", ":defines: NotMap"),
     ];
     for (text, part, wanted) in rows {
@@ -494,6 +518,26 @@ fn the_section_cmock(rt: HostRuntime) -> Result<(), TestFail> {
             "false",
         ),
         (":cmock:\n  :callback_include_count: true", "count", "true"),
+        (":cmock:\n  :callback_include_count: TRUE", "count", "true"),
+        (
+            ":cmock:\n  :callback_include_count: false",
+            "count",
+            "false",
+        ),
+        (":cmock:\n  :callback_include_count:", "count", "true"),
+        (":cmock:\n  :when_ptr: {}", "", ":cmock: :when_ptr: NotText"),
+        (":cmock:\n  :mock_prefix: ''", "mock", "mock_"),
+        (
+            ":cmock:\n  :mock_prefix: m-",
+            "",
+            ":cmock: :mock_prefix: BadValue",
+        ),
+        (":cmock:\n  :enforce_strict_ordering: ''", "strict", "false"),
+        (
+            ":cmock:\n  :enforce_strict_ordering: {}",
+            "",
+            ":cmock: :enforce_strict_ordering: NotBool",
+        ),
         (
             ":cmock:\n  :callback_include_count: False",
             "",

@@ -1,5 +1,5 @@
 -- Texts are read exactly where a node is spelled, and refused at the line where none begins so.
-use Rattle.std.proofs.Common.{◌≡◌, ℕ, ◌+◌, true, false, cond, eqb, List, [], ◌∷◌, ◌++◌, length, take, drop, Option, Some, None, Result, Ok, Err, refl, sym, ap, ◌∙◌, subst, ◌&&◌, not, ⊎_elim, inl, inr, append_assoc, arith, length-append}
+use Rattle.std.proofs.Common.{◌≡◌, ℕ, ◌+◌, ◌-◌, ◌^◌, ◌<◌, ◌≤◌, true, false, cond, eqb, List, [], ◌∷◌, ◌++◌, length, take, drop, Option, Some, None, Result, Ok, Err, refl, sym, ap, ◌∙◌, subst, ◌&&◌, not, ⊎_elim, inl, inr, append_assoc, arith, length-append}
 use Rattle.std.specs.Prelude.{All, codes, IfOk, IfErr}
 use Rattle.std.specs.Str.{IsUtf8, is_utf8}
 use Rattle.std.specs.Option.{IfSome}
@@ -496,10 +496,17 @@ comes_node lines (Err e) h = tt
 
 pub comes_refused : (lines : List (List ℕ)) (r : Result Node (Fail YamlFault)) → RunComes r (run_all lines) → IfErr r (IsRefused lines)
 comes_refused lines (Ok node) h = tt
-comes_refused lines (Err (Fault fault)) h = (run_none lines fault.line h, run_line lines fault.line h)
+comes_refused lines (Err (Fault fault)) (n, h, is) = (run_none lines n h, (n, run_line lines n h, is))
 comes_refused lines (Err OutOfMemory) h = tt
 
-pub ruleset answer_rules = (comes_node, one_node, comes_refused)
+pub ruleset answer_rules = (comes_node, comes_refused)
+
+-- the line of a text of fewer lines than its type holds
+pub line_told : (lines : List (List ℕ)) (fault : YamlFault) → length lines < 2 ^ 32 - 1 → IsRefused lines (Fault fault)
+    → ((node : Node) → Spells lines node → ⊥) × IsFaultLine lines fault.line
+line_told lines fault few (none, (n, is, told)) =
+    let within : n ≤ length lines = ⊎_elim (λ f. f.0) (λ f. omega (arith, f.0)) is in
+    let same : n ≡ fault.line = omega arith in (none, subst (IsFaultLine lines) same is)
 
 -- ---- UTF-8
 

@@ -65,6 +65,20 @@ stop_inside : (spaced : Bool) (b : ℕ) (u rest : List ℕ) → (spaced && (eqb 
 stop_inside spaced b u rest h t = or_from _ _ (rest_inside spaced b u rest h t) (colon_inside b u rest t)
 
 -- a plain scalar is read to its end
+-- one more byte of a plain scalar
+pub plain_more : (spaced : Bool) (b : ℕ) (bytes : List ℕ) → is_stop spaced (b ∷ bytes) ≡ false → plain_len spaced (b ∷ bytes) ≡ suc (plain_len (eqb b 32) bytes)
+plain_more spaced b bytes h = cond-false (is_stop spaced (b ∷ bytes)) zero (suc (plain_len (eqb b 32) bytes)) h
+
+-- where a blank is one more, something that counts stands behind it
+pub counts_behind : (spaced : Bool) (b : ℕ) (bytes : List ℕ) → is_stop spaced (b ∷ bytes) ≡ false → is_blank b ≡ true → is_rest (eqb b 32) bytes ≡ false
+counts_behind spaced b bytes h blank =
+    let rest = (or_parts (is_rest spaced (b ∷ bytes)) ((eqb b 58) && is_gap bytes) h).0 in
+    right_false (is_blank b) (is_rest (eqb b 32) bytes) blank (or_parts (spaced && (eqb b 35)) (is_blank b && is_rest (eqb b 32) bytes) rest).1
+  where
+    right_false : (x y : Bool) → x ≡ true → (x && y) ≡ false → y ≡ false
+    right_false true y is h = h
+    right_false false y is h = absurd (false≢true is)
+
 pub plain_len_at : (spaced : Bool) (b : ℕ) (u rest : List ℕ) → (spaced && (eqb b 35)) ≡ false → IsTail b u → is_stop false rest ≡ true
     → plain_len spaced (b ∷ u ++ rest) ≡ length (b ∷ u)
 plain_len_at spaced b [] rest h t stop =

@@ -9,6 +9,7 @@ use Rattle.ct_yaml.specs.declared.text.YamlFault.{YamlFault}
 use Rattle.ct_yaml.specs.declared.text.Phase.{Phase}
 use Rattle.ct_yaml.specs.declared.text.Phase.TheVariants.{Start, Body, Ended}
 use Rattle.ct_yaml.specs.Line.{is_blank_line, is_end}
+use Rattle.ct_yaml.specs.Text.{line_number}
 use Rattle.ct_yaml.specs.Reading.{then_read, line_marks, mapped}
 use Rattle.ct_yaml.specs.Stack.{Open, steps, text_node, view}
 
@@ -53,5 +54,5 @@ place_of reader = (reader.phase, view reader.blocks)
 -- what a run comes to, unless memory runs out
 abbrev pub Comes : Result Node (Fail YamlFault) → Result Node ℕ → Type 0
 Comes (Ok node) run = run ≡ Ok node
-Comes (Err (Fault fault)) run = run ≡ Err fault.line
+Comes (Err (Fault fault)) run = (n : ℕ) × (run ≡ Err n) × (fault.line ≡ line_number n)
 Comes (Err OutOfMemory) run = Unit {0}

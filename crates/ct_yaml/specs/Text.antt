@@ -1,5 +1,5 @@
 -- Whole texts.
-use Rattle.std.specs.Prelude.{◌≡◌, ◌⊎◌, ℕ, ◌<◌, ◌≤◌, ◌==◌, ◌&&◌, Bool, false, not, if◌then◌else◌, List, [], ◌∷◌, ◌++◌, All, filter, take, length, codes}
+use Rattle.std.specs.Prelude.{◌≡◌, ◌⊎◌, ℕ, ◌-◌, ◌^◌, min, ◌<◌, ◌≤◌, ◌==◌, ◌&&◌, Bool, false, not, if◌then◌else◌, List, [], ◌∷◌, ◌++◌, All, filter, take, length, codes}
 use Rattle.std.specs.Str.{IsUtf8}
 use Rattle.ct_yaml.specs.declared.node.Node.{Node}
 use Rattle.ct_yaml.specs.declared.node.Node.TheVariants.{Map}
@@ -76,7 +76,12 @@ IsFaultLine lines n =
     ((n ≤ length lines) × (Begins (take n lines) → ⊥) × ((m : ℕ) → m < n → Begins (take m lines)))
     ⊎ ((n ≡ length lines) × ((m : ℕ) → m ≤ length lines → Begins (take m lines)))
 
+-- a number of a line, which stands still at the end of its type
+abbrev pub line_number : ℕ → ℕ
+line_number n = min n (2 ^ 32 - 1)
+
 -- What it says that a text is refused: no node is spelled, and this is the line. Memory may run out.
 abbrev pub IsRefused : List (List ℕ) → Fail YamlFault → Type 0
-IsRefused lines (Fault fault) = ((node : Node) → Spells lines node → ⊥) × IsFaultLine lines fault.line
+IsRefused lines (Fault fault) =
+    ((node : Node) → Spells lines node → ⊥) × ((n : ℕ) × IsFaultLine lines n × (fault.line ≡ line_number n))
 IsRefused lines OutOfMemory = Unit {0}

@@ -1,6 +1,6 @@
 //! Bytes of a line.
 
-ghost use Rattle.std.specs.Prelude.{◌≡◌, [], ◌∷◌, MatchOption};
+ghost use Rattle.std.specs.Prelude.{◌≡◌, [], ◌∷◌, MatchOption, true, false};
 ghost use Rattle.std.specs.List.{list_any};
 ghost use Rattle.ct_yaml.specs.Line as line;
 ghost use Rattle.ct_yaml.specs.Reading as reading;
@@ -19,7 +19,7 @@ pub fn first_of(bytes: &[u8]) -> Option<(u8, &[u8])>
 }
 
 /// Whether a byte is a space or a tab.
-fn is_blank(byte: u8) -> bool
+pub fn is_blank(byte: u8) -> bool
     ensures { result ≡ line.is_blank byte }
 {
     byte == b' ' || byte == b'\t'
@@ -199,13 +199,17 @@ pub fn is_flow_stop(bytes: &[u8]) -> bool
     true
 }
 
-/// Whether a plain scalar ends before the bytes, where it is said whether a space stands there.
-pub fn is_stop(after_space: bool, bytes: &[u8]) -> bool
+/// Whether a plain scalar ends before the bytes, where it is said whether a space stands there, and
+/// whether it is known that something that counts follows.
+pub fn is_stop(goes_on: bool, after_space: bool, bytes: &[u8]) -> bool
+    requires { goes_on ≡ true → line.is_rest after_space bytes.now ≡ false }
     ensures { result ≡ reading.is_stop after_space bytes.now }
 {
     match first_of(bytes) {
         None => true,
-        Some((byte, more)) => is_rest(after_space, bytes) || (byte == b':' && is_gap(more)),
+        Some((byte, more)) => {
+            (!goes_on && is_rest(after_space, bytes)) || (byte == b':' && is_gap(more))
+        }
     }
 }
 

@@ -5,7 +5,7 @@ ghost use Rattle.ct_yaml.specs.Gives.{Gives};
 ghost use Rattle.ct_yaml.specs.Line as line;
 ghost use Rattle.ct_yaml.specs.Reading as reading;
 
-use crate::chars::{Unspelled, first_of, is_flow_plain, is_flow_stop, is_plain, is_stop};
+use crate::chars::{Unspelled, first_of, is_blank, is_flow_plain, is_flow_stop, is_plain, is_stop};
 use ct_base::{Bytes, Fail, Out};
 use std::alloc::Global;
 
@@ -74,18 +74,21 @@ fn double(alloc: Global, bytes: &[u8]) -> Out<(Bytes, &[u8]), Unspelled>
     Err(Fail::Fault(Unspelled))
 }
 
-/// How many bytes a plain scalar has.
+/// How many bytes a plain scalar has. Blanks in a row are looked at once: where they do not end it at
+/// the first of them, they do not end it at the others.
 fn plain_len(bytes: &[u8]) -> usize
     ensures value { result ≡ reading.plain_len false bytes.now }
     ensures within { result ≤ length bytes.now }
 {
     let mut len = 0;
     let mut spaced = false;
+    let mut goes_on = false;
     let mut rest = bytes;
     while let Some((byte, more)) = first_of(rest) {
-        if is_stop(spaced, rest) {
+        if is_stop(goes_on, spaced, rest) {
             return len;
         }
+        goes_on = is_blank(byte);
         spaced = byte == b' ';
         rest = more;
         len += 1;
@@ -119,17 +122,19 @@ pub fn scalar(alloc: Global, bytes: &[u8]) -> Out<(Bytes, &[u8]), Unspelled>
     }
 }
 
-/// How many bytes a plain scalar of a flow list has.
+/// How many bytes a plain scalar of a flow list has. Spaces in a row are looked at once.
 fn flow_len(bytes: &[u8]) -> usize
     ensures value { result ≡ reading.flow_len bytes.now }
     ensures within { result ≤ length bytes.now }
 {
     let mut len = 0;
+    let mut goes_on = false;
     let mut rest = bytes;
-    while let Some((_, more)) = first_of(rest) {
-        if is_flow_stop(rest) {
+    while let Some((byte, more)) = first_of(rest) {
+        if !goes_on && is_flow_stop(rest) {
             return len;
         }
+        goes_on = byte == b' ';
         rest = more;
         len += 1;
     }

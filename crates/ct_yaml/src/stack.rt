@@ -165,17 +165,6 @@ fn is_key(mark: &Mark) -> bool
     matches!(mark, Mark::Key { .. })
 }
 
-/// Takes the first mark out of a list.
-fn take_first(marks: &mut Vec<Mark>) -> Option<Mark>
-    ensures { MatchOption result ((marks.old.items ≡ []) × (marks.new.items ≡ []))
-        (λ first. marks.old.items ≡ first ∷ marks.new.items) }
-{
-    if marks.is_empty() {
-        return None;
-    }
-    Some(marks.remove(0))
-}
-
 /// How many lists a value opens on its line.
 fn value_depth(value: &Option<Inline>) -> usize
     ensures { result ≡ spec.value_depth value.now }
@@ -284,8 +273,7 @@ impl OpenBlocks {
     pub fn steps(&mut self, alloc: Global, marks: Vec<Mark>) -> Out<(), Unspelled>
         ensures { Gives (λ _. spec.view self.new) result (spec.steps (spec.view self.old) marks.items) }
     {
-        let mut marks = marks;
-        while let Some(mark) = take_first(&mut marks) {
+        for mark in marks {
             self.step(alloc, mark)?;
         }
         Ok(())

@@ -36,12 +36,8 @@ fn show(node: &Node, into: &mut Vec<u8>) -> Mem<()> {
 }
 
 /// The node that is read, as text, or the line that is refused.
-#[tactic(auto, using(crate::proofs::CutLemmas::text_lines_few))]
 fn outcome(alloc: Global, text: &[u8]) -> Mem<Vec<u8>> {
     let mut shown = Vec::new(alloc);
-    if text.len() > 1_000_000 {
-        return Ok(shown);
-    }
     match read(alloc, text) {
         Ok(node) => show(&node, &mut shown)?,
         Err(Fail::Fault(fault)) => {
@@ -82,6 +78,12 @@ fn entries_and_plain_scalars(rt: HostRuntime) -> Result<(), TestFail> {
         ("a b: c\n", "{a b=<c>;}"),
         ("a: {}\nb: {  }\n", "{a={};b={};}"),
         ("a: x [y] {z}, w\n", "{a=<x [y] {z}, w>;}"),
+        ("\u{feff}a: b", "{\u{feff}a=<b>;}"),
+        ("a: b\r # c\n", "{a=<b\r>;}"),
+        ("#\na: b #\n", "{a=<b>;}"),
+        ("a:   # c\nb: d", "{a=<>;b=<d>;}"),
+        ("a: -1\nb: --\nc: -:d", "{a=<-1>;b=<-->;c=<-:d>;}"),
+        ("a: {}  # b", "{a={};}"),
         (
             ":project:\n  :build_root: build\n",
             "{:project={:build_root=<build>;};}",
@@ -119,6 +121,13 @@ fn quotes_and_their_escapes(rt: HostRuntime) -> Result<(), TestFail> {
         ("a: \"b\\\"", "line 1"),
         ("'a' : b", "line 1"),
         ("'a'", "line 1"),
+        ("'a':b", "line 1"),
+        ("a: \"\"", "{a=<>;}"),
+        ("a: '\"'\nb: \"'\"", "{a=<\">;b=<'>;}"),
+        ("'- a': '{}'", "{- a=<{}>;}"),
+        ("a: \"b\\", "line 1"),
+        ("a: 'b\n  c'", "line 1"),
+        ("a: 'b''", "line 1"),
     ];
     for (text, wanted) in rows {
         let shown = outcome(rt.alloc(), text.as_bytes())?;
@@ -159,6 +168,23 @@ fn block_lists_and_flow_lists(rt: HostRuntime) -> Result<(), TestFail> {
         ("a: [b: c]", "line 1"),
         ("a: [b #c]", "line 1"),
         ("a: [b\n  c]", "line 1"),
+        ("a: [-b, ?c, d:e]", "{a=[<-b>,<?c>,<d:e>,];}"),
+        ("a: ['b' , \"c\\n\", '']", "{a=[<b>,<c\n>,<>,];}"),
+        ("a: [{b}]", "line 1"),
+        ("a: [-]", "line 1"),
+        ("a: [b:]", "line 1"),
+        ("a: ['b' 'c']", "line 1"),
+        ("a: [b]# c", "line 1"),
+        ("a: [\tb]", "{a=[<\tb>,];}"),
+        ("a: [b\t, c]", "line 1"),
+        ("[a]: b", "line 1"),
+        ("a:\n- b\n\n# c\n- d\n", "{a=[<b>,<d>,];}"),
+        (
+            "a:\n- - b\n-  c: d\n   e:\n   - f",
+            "{a=[[<b>,],{c=<d>;e=[<f>,];},];}",
+        ),
+        ("a:\n  - b\n  -\n    c", "line 4"),
+        ("a:\n- b\nc\n", "line 3"),
     ];
     for (text, wanted) in rows {
         let shown = outcome(rt.alloc(), text.as_bytes())?;
@@ -183,6 +209,10 @@ fn marks_of_the_start_and_the_end(rt: HostRuntime) -> Result<(), TestFail> {
         (" ---\na: b", "line 1"),
         ("--- a", "line 1"),
         ("--- a: b", "{--- a=<b>;}"),
+        ("a: b\n  ...", "line 2"),
+        ("a: b\n... c", "line 2"),
+        ("\n# a\n---\n# b\n...\n\n", "{}"),
+        ("a: b\n...\n...", "line 3"),
     ];
     for (text, wanted) in rows {
         let shown = outcome(rt.alloc(), text.as_bytes())?;
@@ -230,6 +260,20 @@ fn refused_texts_name_their_line(rt: HostRuntime) -> Result<(), TestFail> {
         ("a: -", "line 1"),
         ("a: ? b", "line 1"),
         ("? a: b", "line 1"),
+        ("a: {}\n  b: c", "line 2"),
+        ("a: {} b", "line 1"),
+        ("a: {", "line 1"),
+        ("a: {\t}", "line 1"),
+        ("{}", "line 1"),
+        ("a: ]", "line 1"),
+        ("a: }b", "line 1"),
+        ("a: \"b\"\n  c: d", "line 2"),
+        ("a:\n  b: c\n\td: e", "line 3"),
+        ("a:\n  \tb: c\n", "line 2"),
+        ("a: b\n- c", "line 2"),
+        ("a:\n  - b: c\n   d: e", "line 3"),
+        ("a:\n  - b: c\n     d: e", "line 3"),
+        ("a: b\n\n\n c: d", "line 4"),
     ];
     for (text, wanted) in rows {
         let shown = outcome(rt.alloc(), text.as_bytes())?;
@@ -257,6 +301,49 @@ fn texts_are_utf8(rt: HostRuntime) -> Result<(), TestFail> {
 fn repeat(piece: &[u8], times: u32, into: &mut Vec<u8>) -> Mem<()> {
     for _ in 0..times {
         into.extend_from_slice(piece)?;
+    }
+    Ok(())
+}
+
+/// A front, a piece so many times, and an end.
+fn long(alloc: Global, front: &str, piece: &str, times: u32, end: &str) -> Mem<Vec<u8>> {
+    let mut text = Vec::new(alloc);
+    text.extend_from_slice(front.as_bytes())?;
+    repeat(piece.as_bytes(), times, &mut text)?;
+    text.extend_from_slice(end.as_bytes())?;
+    Ok(text)
+}
+
+/// Each text has at least 1 MiB, and is read in a time that grows as its length.
+#[test]
+fn long_texts_and_lines(rt: HostRuntime) -> Result<(), TestFail> {
+    let rows = [
+        ("", "# sixteen bytes\n", 65_536, "a: b", "{a=<b>;}"),
+        ("", "\n", 1_048_576, "a", "line 1048577"),
+        ("a: b # ", "#", 1_048_576, "\nc: d", "{a=<b>;c=<d>;}"),
+        ("a:", "\t \n", 349_526, "  b: c", "{a={b=<c>;};}"),
+        ("a: b", " ", 1_048_576, "# c", "{a=<b>;}"),
+        ("a: b", " ", 1_048_576, "c: d", "line 1"),
+        ("a: b", "\t", 1_048_576, "c: d", "line 1"),
+        ("a", ":", 1_048_576, " b", "line 1"),
+        ("a: [b", " ", 1_048_576, "]", "{a=[<b>,];}"),
+        ("a: [b", " ", 1_048_576, "c: d]", "line 1"),
+        ("a: [", "b,", 524_288, "]", "line 1"),
+        ("a: '", "''", 524_288, "", "line 1"),
+        ("a: \"", "\\\"", 524_288, "", "line 1"),
+        ("a:\n", "- ", 524_288, "b", "line 2"),
+        ("", " ", 1_048_576, "a: b", "{a=<b>;}"),
+        ("", "a: b\n", 209_716, "c", "line 209717"),
+        ("a:\n", "- b\n", 262_144, "c", "line 262146"),
+    ];
+    for (front, piece, times, end, wanted) in rows {
+        let text = long(rt.alloc(), front, piece, times, end)?;
+        let shown = outcome(rt.alloc(), text.as_slice())?;
+        assert_eq!(rt;
+            shown.as_slice(),
+            wanted.as_bytes(),
+            "{front:?} {piece:?} {end:?}"
+        );
     }
     Ok(())
 }

@@ -1,12 +1,11 @@
 //! A text, line by line.
 
-ghost use Rattle.std.specs.Prelude.{◌≡◌, ◌-◌, ◌^◌, ◌<◌, length, IfOk, IfErr};
+ghost use Rattle.std.specs.Prelude.{◌≡◌, IfOk, IfErr};
 ghost use Rattle.std.specs.Str as str_spec;
 ghost use Rattle.ct_yaml.specs.Gives.{Gives};
 ghost use Rattle.ct_yaml.specs.Run as spec;
 ghost use Rattle.ct_yaml.specs.Stack as stack;
-ghost use Rattle.ct_yaml.specs.declared.node.Node as declared;
-ghost use Rattle.ct_yaml.specs.Text.{text_lines, Spells, IsRefused};
+ghost use Rattle.ct_yaml.specs.Text.{line_number, text_lines, Spells, IsRefused};
 
 use crate::chars::{Unspelled, is_blank_line, is_marker};
 use crate::lines::marks;
@@ -18,7 +17,8 @@ use std::alloc::Global;
 use std::str;
 use thiserror::Error;
 
-/// A text that no node spells, by the line from which on no text begins so, or else its last.
+/// A text that no node spells, by the line from which on no text begins so, or else its last. A line
+/// past the end of the type is given as that end.
 #[derive(Clone, Copy, Debug, PartialEq, Eq, Error)]
 #[error("the text is outside the YAML profile")]
 pub struct YamlFault {
@@ -112,27 +112,36 @@ fn is_utf8(line: &[u8]) -> bool
     }
 }
 
+/// The number of a line, which stands still at the type's end.
+fn line_number(count: usize) -> u32
+    ensures { result ≡ line_number count }
+{
+    u32::try_from(count).unwrap_or(u32::MAX)
+}
+
 /// Reads all lines.
-#[tactic(auto, using(crate::proofs::CutLemmas::cut_lines), unfolding(crate::specs::Run::run_all))]
+#[tactic(auto, using(crate::proofs::CutLemmas::cut_lines, crate::proofs::CutLemmas::text_lines_few), unfolding(crate::specs::Run::run_all))]
 fn read_lines(alloc: Global, bytes: &[u8]) -> Out<Node, YamlFault>
-    requires { length (text_lines bytes.now) < 2 ^ 32 - 1 }
     ensures { spec.Comes result (spec.run_all (text_lines bytes.now)) }
 {
     let mut reader = Reader::new(alloc);
-    let mut count: u32 = 0;
+    let mut count: usize = 0;
     for line in bytes.lines() {
         count += 1;
         match reader.line(alloc, line) {
             Ok(()) => {}
             Err(Fail::OutOfMemory) => return Err(Fail::OutOfMemory),
-            Err(Fail::Fault(_)) => return Err(Fail::Fault(YamlFault { line: count })),
+            Err(Fail::Fault(_)) => {
+                let line = line_number(count);
+                return Err(Fail::Fault(YamlFault { line }));
+            }
         }
     }
     let node = reader.blocks.finish(alloc)?;
     Ok(node)
 }
 
-/// The node that the text spells.
+/// The node that the text spells. No other one does (`one_node`).
 ///
 /// # Errors
 ///
@@ -140,11 +149,7 @@ fn read_lines(alloc: Global, bytes: &[u8]) -> Out<Node, YamlFault>
 /// the lines up to it begin no text, and the last line where there is none.
 #[tactic(auto, using(crate::proofs::RunLemmas::answer_rules))]
 pub fn read(alloc: Global, bytes: &[u8]) -> Out<Node, YamlFault>
-    requires { length (text_lines bytes.now) < 2 ^ 32 - 1 }
     ensures node { IfOk result (λ node. Spells (text_lines bytes.now) node) }
-    // At most one node spells a text.
-    ensures only { (first second : declared.Node) → Spells (text_lines bytes.now) first
-        → Spells (text_lines bytes.now) second → first ≡ second }
     ensures refused { IfErr result (IsRefused (text_lines bytes.now)) }
 {
     read_lines(alloc, bytes)

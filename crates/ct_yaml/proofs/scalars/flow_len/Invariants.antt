@@ -1,12 +1,13 @@
-use Rattle.std.proofs.Common.{◌≡◌, ◌+◌, length}
+use Rattle.std.proofs.Common.{◌≡◌, ◌+◌, length, true, false}
 use Rattle.ct_yaml.specs.Reading as reading
 use Rattle.ct_yaml.proofs.scalars.flow_len.Given as goal
 
-abbrev pub invariant-loop-more : goal.invariant-loop-more
-invariant-loop-more l = record {
+abbrev pub invariant-loop-byte : goal.invariant-loop-byte
+invariant-loop-byte l = record {
   read : l.len + reading.flow_len l.rest ≡ reading.flow_len l.fn.bytes;
   within : l.len + length l.rest ≡ length l.fn.bytes;
+  goes_on : l.goes_on ≡ true → reading.is_flow_stop l.rest ≡ false;
 }
 
-abbrev pub decreases-loop-more : goal.decreases-loop-more
-decreases-loop-more l = length l.rest
+abbrev pub decreases-loop-byte : goal.decreases-loop-byte
+decreases-loop-byte l = length l.rest
