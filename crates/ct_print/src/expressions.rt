@@ -10,11 +10,13 @@ ghost use Rattle.ct_print.specs.Text.{Appends};
 ghost use Rattle.ct_syntax.specs.Lists.{optional_of, declarators_of, members_of, enumerators_of, parameters_of};
 
 use crate::putting::{
-    put_comma, put_form, put_keyword, put_mark, put_qualifiers, put_tag, put_text, put_texts,
+    put_comma, put_form, put_keyword, put_mark, put_qualifiers, put_strings, put_tag, put_text,
 };
 use crate::words::{STAR, prefix_mark};
-use ct_base::Mem;
-use ct_syntax::{AssignOp, Declarator, Enumerator, Expr, Keyword, Mark, Member, Parameter, Spec};
+use ct_base::{Bytes, Mem};
+use ct_syntax::{
+    AssignOp, Declarator, Enumerator, Expr, Keyword, Mark, Member, MemberOp, Parameter, Spec,
+};
 
 /// Appends an expression.
 #[cycle(expressions)]
@@ -25,80 +27,133 @@ pub(crate) fn put_expression(x: &Expr, into: &mut Vec<u8>) -> Mem<()>
         Expr::Name(_, text) | Expr::Number(_, text) | Expr::Character(_, text) => put_text(
             text, into,
         ),
-        Expr::Text(_, first, others) => {
-            put_text(first, into)?;
-            put_texts(others.as_slice(), into)?;
-            Ok(())
-        }
+        Expr::Text(_, first, others) => put_strings(first, others.as_slice(), into),
         Expr::Paren(_, inner) => put_enclosed(Mark::Open, inner, Mark::Close, into),
-        Expr::Index(_, array, place) => {
-            put_expression(array, into)?;
-            put_enclosed(Mark::OpenBracket, place, Mark::CloseBracket, into)?;
-            Ok(())
-        }
-        Expr::Call(_, function, arguments) => {
-            put_expression(function, into)?;
-            put_mark(Mark::Open, into)?;
-            put_list(arguments, into)?;
-            put_mark(Mark::Close, into)?;
-            Ok(())
-        }
-        Expr::Member(_, whole, op, name) => {
-            put_expression(whole, into)?;
-            put_mark(Mark::Member(*op), into)?;
-            put_text(name, into)?;
-            Ok(())
-        }
-        Expr::Postfix(_, operand, op) => {
-            put_expression(operand, into)?;
-            put_mark(Mark::Step(*op), into)?;
-            Ok(())
-        }
+        Expr::Index(_, array, place) => put_index(array, place, into),
+        Expr::Call(_, function, arguments) => put_call(function, arguments, into),
+        Expr::Member(_, whole, op, name) => put_member(whole, *op, name, into),
+        Expr::Postfix(_, operand, op) => put_before(operand, Mark::Step(*op), into),
         Expr::Prefix(_, op, operand) => put_behind(Mark::Step(*op), operand, into),
         Expr::Unary(_, op, operand) => put_behind(prefix_mark(*op), operand, into),
-        Expr::SizeofValue(_, operand) => {
-            put_keyword(Keyword::Sizeof, into)?;
-            put_expression(operand, into)?;
-            Ok(())
-        }
-        Expr::SizeofType(_, specs, declarator) => {
-            put_keyword(Keyword::Sizeof, into)?;
-            put_mark(Mark::Open, into)?;
-            put_specs(specs, into)?;
-            put_declarator(declarator, into)?;
-            put_mark(Mark::Close, into)?;
-            Ok(())
-        }
-        Expr::Cast(_, specs, declarator, operand) => {
-            put_mark(Mark::Open, into)?;
-            put_specs(specs, into)?;
-            put_declarator(declarator, into)?;
-            put_mark(Mark::Close, into)?;
-            put_expression(operand, into)?;
-            Ok(())
-        }
-        Expr::Infix(_, op, left, right) => {
-            put_expression(left, into)?;
-            put_behind(Mark::Infix(*op), right, into)?;
-            Ok(())
-        }
-        Expr::Assign(_, op, left, right) => {
-            put_expression(left, into)?;
-            put_behind(Mark::Assign(*op), right, into)?;
-            Ok(())
-        }
-        Expr::Comma(_, left, right) => {
-            put_expression(left, into)?;
-            put_behind(Mark::Comma, right, into)?;
-            Ok(())
-        }
-        Expr::Conditional(_, test, yes, no) => {
-            put_expression(test, into)?;
-            put_enclosed(Mark::Question, yes, Mark::Colon, into)?;
-            put_expression(no, into)?;
-            Ok(())
-        }
+        Expr::SizeofValue(_, operand) => put_sizeof_value(operand, into),
+        Expr::SizeofType(_, specs, declarator) => put_sizeof_type(specs, declarator, into),
+        Expr::Cast(_, specs, declarator, operand) => put_cast(specs, declarator, operand, into),
+        Expr::Infix(_, op, left, right) => put_around(left, Mark::Infix(*op), right, into),
+        Expr::Assign(_, op, left, right) => put_around(left, Mark::Assign(*op), right, into),
+        Expr::Comma(_, left, right) => put_around(left, Mark::Comma, right, into),
+        Expr::Conditional(_, test, yes, no) => put_conditional(test, yes, no, into),
     }
+}
+
+/// Appends an element of an array.
+#[cycle(expressions)]
+fn put_index(array: &Expr, place: &Expr, into: &mut Vec<u8>) -> Mem<()>
+    ensures { OnOk result (Appends into.old.items into.new.items (λ rest. spell (view array.now) (Sign Mark.OpenBracket ∷ spell (view place.now) (Sign Mark.CloseBracket ∷ rest)))) }
+{
+    put_expression(array, into)?;
+    put_enclosed(Mark::OpenBracket, place, Mark::CloseBracket, into)?;
+    Ok(())
+}
+
+/// Appends a call of a function.
+#[cycle(expressions)]
+fn put_call(function: &Expr, arguments: &[Expr], into: &mut Vec<u8>) -> Mem<()>
+    ensures { OnOk result (Appends into.old.items into.new.items (λ rest. spell (view function.now) (Sign Mark.Open ∷ spell_list (expressions_of arguments.now) (Sign Mark.Close ∷ rest)))) }
+{
+    put_expression(function, into)?;
+    put_mark(Mark::Open, into)?;
+    put_list(arguments, into)?;
+    put_mark(Mark::Close, into)?;
+    Ok(())
+}
+
+/// Appends a member of a struct.
+#[cycle(expressions)]
+fn put_member(whole: &Expr, op: MemberOp, name: &Bytes, into: &mut Vec<u8>) -> Mem<()>
+    ensures { OnOk result (Appends into.old.items into.new.items (λ rest. spell (view whole.now) (Sign (Mark.Member op) ∷ Named name.now ∷ rest))) }
+{
+    put_expression(whole, into)?;
+    put_mark(Mark::Member(op), into)?;
+    put_text(name, into)?;
+    Ok(())
+}
+
+/// Appends `sizeof` and an expression.
+#[cycle(expressions)]
+fn put_sizeof_value(operand: &Expr, into: &mut Vec<u8>) -> Mem<()>
+    ensures { OnOk result (Appends into.old.items into.new.items (λ rest. Key Keyword.Sizeof ∷ spell (view operand.now) rest)) }
+{
+    put_keyword(Keyword::Sizeof, into)?;
+    put_expression(operand, into)?;
+    Ok(())
+}
+
+/// Appends `sizeof` and a type name in parentheses.
+#[cycle(expressions)]
+fn put_sizeof_type(specs: &[Spec], declarator: &Declarator, into: &mut Vec<u8>) -> Mem<()>
+    ensures { OnOk result (Appends into.old.items into.new.items (λ rest. Key Keyword.Sizeof ∷ Sign Mark.Open ∷ spell_specs (specs_of specs.now) (spell_declarator (view_declarator declarator.now) (Sign Mark.Close ∷ rest)))) }
+{
+    put_keyword(Keyword::Sizeof, into)?;
+    put_type_name(specs, declarator, into)?;
+    Ok(())
+}
+
+/// Appends a cast.
+#[cycle(expressions)]
+fn put_cast(
+    specs: &[Spec],
+    declarator: &Declarator,
+    operand: &Expr,
+    into: &mut Vec<u8>,
+) -> Mem<()>
+    ensures { OnOk result (Appends into.old.items into.new.items (λ rest. Sign Mark.Open ∷ spell_specs (specs_of specs.now) (spell_declarator (view_declarator declarator.now) (Sign Mark.Close ∷ spell (view operand.now) rest)))) }
+{
+    put_type_name(specs, declarator, into)?;
+    put_expression(operand, into)?;
+    Ok(())
+}
+
+/// Appends a type name in parentheses.
+#[cycle(expressions)]
+fn put_type_name(specs: &[Spec], declarator: &Declarator, into: &mut Vec<u8>) -> Mem<()>
+    ensures { OnOk result (Appends into.old.items into.new.items (λ rest. Sign Mark.Open ∷ spell_specs (specs_of specs.now) (spell_declarator (view_declarator declarator.now) (Sign Mark.Close ∷ rest)))) }
+{
+    put_mark(Mark::Open, into)?;
+    put_specs(specs, into)?;
+    put_declarator(declarator, into)?;
+    put_mark(Mark::Close, into)?;
+    Ok(())
+}
+
+/// Appends a conditional.
+#[cycle(expressions)]
+fn put_conditional(test: &Expr, yes: &Expr, no: &Expr, into: &mut Vec<u8>) -> Mem<()>
+    ensures { OnOk result (Appends into.old.items into.new.items (λ rest. spell (view test.now) (Sign Mark.Question ∷ spell (view yes.now) (Sign Mark.Colon ∷ spell (view no.now) rest)))) }
+{
+    put_expression(test, into)?;
+    put_enclosed(Mark::Question, yes, Mark::Colon, into)?;
+    put_expression(no, into)?;
+    Ok(())
+}
+
+/// Appends an expression and a mark.
+#[cycle(expressions)]
+fn put_before(x: &Expr, mark: Mark, into: &mut Vec<u8>) -> Mem<()>
+    ensures { OnOk result (Appends into.old.items into.new.items (λ rest. spell (view x.now) (Sign mark ∷ rest))) }
+{
+    put_expression(x, into)?;
+    put_mark(mark, into)?;
+    Ok(())
+}
+
+/// Appends two expressions and a mark between them.
+#[cycle(expressions)]
+fn put_around(left: &Expr, mark: Mark, right: &Expr, into: &mut Vec<u8>) -> Mem<()>
+    ensures { OnOk result (Appends into.old.items into.new.items (λ rest. spell (view left.now) (Sign mark ∷ spell (view right.now) rest))) }
+{
+    put_expression(left, into)?;
+    put_behind(mark, right, into)?;
+    Ok(())
 }
 
 /// Appends a mark and an expression.

@@ -53,8 +53,17 @@ pub(crate) fn put_text(text: &Bytes, into: &mut Vec<u8>) -> Mem<()>
     put(text.as_slice(), b' ', into)
 }
 
+/// Appends a string literal and those behind it.
+pub(crate) fn put_strings(first: &Bytes, others: &[Bytes], into: &mut Vec<u8>) -> Mem<()>
+    ensures { OnOk result (Appends into.old.items into.new.items (λ rest. Literal first.now ∷ spell_texts others.now rest)) }
+{
+    put_text(first, into)?;
+    put_texts(others, into)?;
+    Ok(())
+}
+
 /// Appends string literals.
-pub(crate) fn put_texts(texts: &[Bytes], into: &mut Vec<u8>) -> Mem<()>
+fn put_texts(texts: &[Bytes], into: &mut Vec<u8>) -> Mem<()>
     ensures { OnOk result (Appends into.old.items into.new.items (spell_texts texts.now)) }
 {
     for text in texts {

@@ -78,10 +78,7 @@ fn put_statement(statement: &Statement, into: &mut Vec<u8>) -> Mem<()>
     ensures { OnOk result (Appends into.old.items into.new.items (spell_statement (view_statement statement.now))) }
 {
     match statement {
-        Statement::Block(block) => {
-            put_block(block, into)?;
-            Ok(())
-        }
+        Statement::Block(block) => put_block(block, into),
         Statement::Run(_, value) => put_ended(value, Mark::Semicolon, into),
         Statement::If(_, branches, other) => {
             put_branches(branches, into)?;
@@ -93,13 +90,7 @@ fn put_statement(statement: &Statement, into: &mut Vec<u8>) -> Mem<()>
             put_statement(body, into)?;
             Ok(())
         }
-        Statement::Do(_, body, test) => {
-            put_keyword(Keyword::Do, into)?;
-            put_statement(body, into)?;
-            put_tested(Keyword::While, test, into)?;
-            put_mark(Mark::Semicolon, into)?;
-            Ok(())
-        }
+        Statement::Do(_, body, test) => put_do(body, test, into),
         Statement::For(_, start, test, after, body) => {
             put_for(start, test, after, into)?;
             put_statement(body, into)?;
@@ -118,6 +109,18 @@ fn put_statement(statement: &Statement, into: &mut Vec<u8>) -> Mem<()>
             Ok(())
         }
     }
+}
+
+/// Appends `do`, its body and its test.
+#[cycle(statements)]
+fn put_do(body: &Statement, test: &Expr, into: &mut Vec<u8>) -> Mem<()>
+    ensures { OnOk result (Appends into.old.items into.new.items (λ rest. Key Keyword.Do ∷ spell_statement (view_statement body.now) (Key Keyword.While ∷ Sign Mark.Open ∷ spell (view test.now) (Sign Mark.Close ∷ Sign Mark.Semicolon ∷ rest)))) }
+{
+    put_keyword(Keyword::Do, into)?;
+    put_statement(body, into)?;
+    put_tested(Keyword::While, test, into)?;
+    put_mark(Mark::Semicolon, into)?;
+    Ok(())
 }
 
 /// Appends the branches of an `if` and its `else if`.

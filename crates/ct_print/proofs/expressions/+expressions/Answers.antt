@@ -11,48 +11,6 @@ use Rattle.ct_print.proofs.Steps.{enumerator_step, member_step}
 use Rattle.ct_print.proofs.Chain.{spelled_as, next_item, specs_first}
 use Rattle.ct_print.proofs.expressions.+expressions.Goals as goal
 
-pub put_expression-returns-in_ok-put_mark-in-Call-2 : goal.put_expression-returns-in_ok-put_mark-in-Call-2
-put_expression-returns-in_ok-put_mark-in-Call-2 t c rest =
-    let h1 = c.in_ok-put_mark-in-Call-2.ensures rest in
-    let h2 = c.in_ok-put_list-in-Call.ensures (Sign Close ∷ rest) in
-    let h3 = c.in_ok-put_mark-in-Call.ensures (spell_list (expressions_of c.in-Call.arguments.items) (Sign Close ∷ rest)) in
-    let h4 = c.in_ok-put_expression-in-Call.ensures (Sign Open ∷ spell_list (expressions_of c.in-Call.arguments.items) (Sign Close ∷ rest)) in
-    spelled_as (λ x. spell (view x) rest) _ _ c.in-Call.is _ _ rest
-    (spelled_as (λ v. spell v rest) _ _ (view_Call c.in-Call.field-0 c.in-Call.function c.in-Call.arguments) _ _ rest cc)
-
-pub put_expression-returns-in_ok-put_text-in-Member : goal.put_expression-returns-in_ok-put_text-in-Member
-put_expression-returns-in_ok-put_text-in-Member t c rest =
-    let h1 = c.in_ok-put_text-in-Member.ensures.name rest in
-    let h2 = c.in_ok-put_mark-in-Member.ensures (Named c.in-Member.name ∷ rest) in
-    let h3 = c.in_ok-put_expression-in-Member.ensures (Sign (MemberMark c.in-Member.op) ∷ Named c.in-Member.name ∷ rest) in
-    spelled_as (λ x. spell (view x) rest) _ _ c.in-Member.is _ _ rest cc
-
-pub put_expression-returns-in_ok-put_mark-in-SizeofType-2 : goal.put_expression-returns-in_ok-put_mark-in-SizeofType-2
-put_expression-returns-in_ok-put_mark-in-SizeofType-2 t c rest =
-    let behind = Sign Close ∷ rest in
-    let named = spell_declarator (view_declarator c.in-SizeofType.declarator.value) behind in
-    let typed = spell_specs (specs_of c.in-SizeofType.specs.items) named in
-    let h1 = c.in_ok-put_mark-in-SizeofType-2.ensures rest in
-    let h2 = c.in_ok-put_declarator-in-SizeofType.ensures behind in
-    let h3 = c.in_ok-put_specs-in-SizeofType.ensures named in
-    let h4 = c.in_ok-put_mark-in-SizeofType.ensures typed in
-    let h5 = c.in_ok-put_keyword-in-SizeofType.ensures (Sign Open ∷ typed) in
-    spelled_as (λ x. spell (view x) rest) _ _ c.in-SizeofType.is _ _ rest
-    (spelled_as (λ v. spell v rest) _ _ (view_SizeofType c.in-SizeofType.field-0 c.in-SizeofType.specs c.in-SizeofType.declarator) _ _ rest cc)
-
-pub put_expression-returns-in_ok-put_expression-in-Cast : goal.put_expression-returns-in_ok-put_expression-in-Cast
-put_expression-returns-in_ok-put_expression-in-Cast t c rest =
-    let behind = Sign Close ∷ spell (view c.in-Cast.operand.value) rest in
-    let named = spell_declarator (view_declarator c.in-Cast.declarator.value) behind in
-    let typed = spell_specs (specs_of c.in-Cast.specs.items) named in
-    let h1 = c.in_ok-put_expression-in-Cast.ensures rest in
-    let h2 = c.in_ok-put_mark-in-Cast-2.ensures (spell (view c.in-Cast.operand.value) rest) in
-    let h3 = c.in_ok-put_declarator-in-Cast.ensures behind in
-    let h4 = c.in_ok-put_specs-in-Cast.ensures named in
-    let h5 = c.in_ok-put_mark-in-Cast.ensures typed in
-    spelled_as (λ x. spell (view x) rest) _ _ c.in-Cast.is _ _ rest
-    (spelled_as (λ v. spell v rest) _ _ (view_Cast c.in-Cast.field-0 c.in-Cast.specs c.in-Cast.declarator c.in-Cast.operand) _ _ rest cc)
-
 pub put_declarator-returns-in_ok-put_mark-in-Function-2 : goal.put_declarator-returns-in_ok-put_mark-in-Function-2
 put_declarator-returns-in_ok-put_mark-in-Function-2 t c rest =
     let h1 = c.in_ok-put_mark-in-Function-2.ensures rest in

@@ -11,12 +11,6 @@ use Rattle.ct_print.proofs.Steps.{branch_step, part_step}
 use Rattle.ct_print.proofs.Chain.{spelled_as}
 use Rattle.ct_print.proofs.statements.+statements.Goals as goal
 
-pub put_statement-returns-in_ok-put_block-in-Block : goal.put_statement-returns-in_ok-put_block-in-Block
-put_statement-returns-in_ok-put_block-in-Block t c rest =
-    spelled_as (λ s. spell_statement (view_statement s) rest) _ _ c.in-Block.is _ _ rest
-    (spelled_as (λ v. spell_statement v rest) _ _ (view_Block c.in-Block.block) _ _ rest
-    (c.in_ok-put_block-in-Block.ensures rest))
-
 pub put_statement-returns-in_ok-put_other-in-If : goal.put_statement-returns-in_ok-put_other-in-If
 put_statement-returns-in_ok-put_other-in-If t c rest =
     let other = spell_other (other_of c.in-If.other) rest in
