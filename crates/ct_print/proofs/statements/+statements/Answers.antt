@@ -1,4 +1,5 @@
 use Rattle.std.proofs.Common.{◌∷◌, ◌++◌, ◌∙◌, ap}
+use Rattle.std.proofs.lemmas.Result.{on_ok_weaker}
 use Rattle.ct_syntax.specs.declared.words.Mark.TheVariants.{OpenBrace, CloseBrace, Colon}
 use Rattle.ct_syntax.specs.Words.{Sign}
 use Rattle.ct_syntax.specs.Trees.{no_part}
@@ -10,6 +11,14 @@ use Rattle.ct_print.specs.Text.{text_of}
 use Rattle.ct_print.proofs.Steps.{branch_step, part_step}
 use Rattle.ct_print.proofs.Chain.{spelled_as}
 use Rattle.ct_print.proofs.statements.+statements.Goals as goal
+
+pub put_statement-returns-in-Block : goal.put_statement-returns-in-Block
+put_statement-returns-in-Block t c =
+    on_ok_weaker c.put_block.result
+    (λ put rest.
+        spelled_as (λ s. spell_statement (view_statement s) rest) _ _ c.in-Block.is _ _ rest
+        (spelled_as (λ v. spell_statement v rest) _ _ (view_Block c.in-Block.block) _ _ rest (put rest)))
+    c.put_block.ensures
 
 pub put_statement-returns-in_ok-put_other-in-If : goal.put_statement-returns-in_ok-put_other-in-If
 put_statement-returns-in_ok-put_other-in-If t c rest =
