@@ -100,12 +100,7 @@ fn put_sizeof_type(specs: &[Spec], declarator: &Declarator, into: &mut Vec<u8>) 
 
 /// Appends a cast.
 #[cycle(expressions)]
-fn put_cast(
-    specs: &[Spec],
-    declarator: &Declarator,
-    operand: &Expr,
-    into: &mut Vec<u8>,
-) -> Mem<()>
+fn put_cast(specs: &[Spec], declarator: &Declarator, operand: &Expr, into: &mut Vec<u8>) -> Mem<()>
     ensures { OnOk result (Appends into.old.items into.new.items (λ rest. Sign Mark.Open ∷ spell_specs (specs_of specs.now) (spell_declarator (view_declarator declarator.now) (Sign Mark.Close ∷ spell (view operand.now) rest)))) }
 {
     put_type_name(specs, declarator, into)?;

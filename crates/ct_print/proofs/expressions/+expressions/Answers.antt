@@ -16,34 +16,34 @@ pub put_expression-returns-in-Call : goal.put_expression-returns-in-Call
 put_expression-returns-in-Call t c =
     on_ok_weaker c.put_call.result
     (λ put rest.
-        let h1 = put rest in
-        let h2 = c.deref-in-Call.ensures in
-        let h3 = c.deref-in-Call-2.ensures.value in
-        spelled_as (λ x. spell (view x) rest) _ _ c.in-Call.is _ _ rest
-        (spelled_as (λ v. spell v rest) _ _ (view_Call c.in-Call.field-0 c.in-Call.function c.in-Call.arguments) _ _ rest cc))
+    let h1 = put rest in
+    let h2 = c.deref-in-Call.ensures in
+    let h3 = c.deref-in-Call-2.ensures.value in
+    spelled_as (λ x. spell (view x) rest) _ _ c.in-Call.is _ _ rest
+    (spelled_as (λ v. spell v rest) _ _ (view_Call c.in-Call.field-0 c.in-Call.function c.in-Call.arguments) _ _ rest cc))
     c.put_call.ensures
 
 pub put_expression-returns-in-SizeofType : goal.put_expression-returns-in-SizeofType
 put_expression-returns-in-SizeofType t c =
     on_ok_weaker c.put_sizeof_type.result
     (λ put rest.
-        let h1 = put rest in
-        let h2 = c.deref-in-SizeofType.ensures.value in
-        let h3 = c.deref-in-SizeofType-2.ensures in
-        spelled_as (λ x. spell (view x) rest) _ _ c.in-SizeofType.is _ _ rest
-        (spelled_as (λ v. spell v rest) _ _ (view_SizeofType c.in-SizeofType.field-0 c.in-SizeofType.specs c.in-SizeofType.declarator) _ _ rest cc))
+    let h1 = put rest in
+    let h2 = c.deref-in-SizeofType.ensures.value in
+    let h3 = c.deref-in-SizeofType-2.ensures in
+    spelled_as (λ x. spell (view x) rest) _ _ c.in-SizeofType.is _ _ rest
+    (spelled_as (λ v. spell v rest) _ _ (view_SizeofType c.in-SizeofType.field-0 c.in-SizeofType.specs c.in-SizeofType.declarator) _ _ rest cc))
     c.put_sizeof_type.ensures
 
 pub put_expression-returns-in-Cast : goal.put_expression-returns-in-Cast
 put_expression-returns-in-Cast t c =
     on_ok_weaker c.put_cast.result
     (λ put rest.
-        let h1 = put rest in
-        let h2 = c.deref-in-Cast.ensures.value in
-        let h3 = c.deref-in-Cast-2.ensures in
-        let h4 = c.deref-in-Cast-3.ensures in
-        spelled_as (λ x. spell (view x) rest) _ _ c.in-Cast.is _ _ rest
-        (spelled_as (λ v. spell v rest) _ _ (view_Cast c.in-Cast.field-0 c.in-Cast.specs c.in-Cast.declarator c.in-Cast.operand) _ _ rest cc))
+    let h1 = put rest in
+    let h2 = c.deref-in-Cast.ensures.value in
+    let h3 = c.deref-in-Cast-2.ensures in
+    let h4 = c.deref-in-Cast-3.ensures in
+    spelled_as (λ x. spell (view x) rest) _ _ c.in-Cast.is _ _ rest
+    (spelled_as (λ v. spell v rest) _ _ (view_Cast c.in-Cast.field-0 c.in-Cast.specs c.in-Cast.declarator c.in-Cast.operand) _ _ rest cc))
     c.put_cast.ensures
 
 pub put_member-returns : goal.put_member-returns

@@ -16,8 +16,8 @@ pub put_statement-returns-in-Block : goal.put_statement-returns-in-Block
 put_statement-returns-in-Block t c =
     on_ok_weaker c.put_block.result
     (λ put rest.
-        spelled_as (λ s. spell_statement (view_statement s) rest) _ _ c.in-Block.is _ _ rest
-        (spelled_as (λ v. spell_statement v rest) _ _ (view_Block c.in-Block.block) _ _ rest (put rest)))
+    spelled_as (λ s. spell_statement (view_statement s) rest) _ _ c.in-Block.is _ _ rest
+    (spelled_as (λ v. spell_statement v rest) _ _ (view_Block c.in-Block.block) _ _ rest (put rest)))
     c.put_block.ensures
 
 pub put_statement-returns-in_ok-put_other-in-If : goal.put_statement-returns-in_ok-put_other-in-If
