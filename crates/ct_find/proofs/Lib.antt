@@ -1,4 +1,5 @@
 mod BridgeLemmas
+mod Children
 mod FindLemmas
 mod GroupLemmas
 mod KindLemmas
@@ -11,6 +12,7 @@ mod ReadLemmas
 mod SetLemmas
 mod StartLemmas
 mod WalkLemmas
+mod WalkOrder
 mod WalkedLemmas
 pub mod OneFinding
 mod Ordered

@@ -13,9 +13,10 @@ use Rattle.ct_outside.specs.Files.{Files, IsFolder, entry_at, is_slash, rest_bel
 use Rattle.ct_outside.specs.Paths.{components_of, path_of}
 use Rattle.ct_find.specs.declared.starts.Start.{Start}
 use Rattle.ct_find.specs.Folders.{IsPath, is_at_or_below}
-use Rattle.ct_find.specs.Order.{AreChildren, IsChild, Lists, nothing, hidden, alone, with_all_below, deep_starts, inside}
+use Rattle.ct_find.specs.Order.{AreChildren, IsChild, deep_starts, inside}
 use Rattle.ct_find.proofs.Members.{contains_append, contains_cases, contains_first, contains_left, contains_map, contains_more, contains_none, contains_right, map_contains}
 use Rattle.ct_find.proofs.NameLemmas.{IsName, child_name, component_name, components_inside, inside_is_path, inside_names, inside_some}
+use Rattle.ct_find.specs.Rows.{Lists, alone, hidden, nothing, with_all_below}
 
 abbrev pub ArePaths : List Start → Type 0
 ArePaths starts = (s : Start) → Contains starts s → IsPath s.path

@@ -6,11 +6,14 @@ mod groups;
 mod laws;
 mod picking;
 mod reading;
+mod rows;
 mod search;
 mod sets;
 mod starts;
 #[cfg(test)]
 mod tests;
+#[cfg(test)]
+mod tree_tests;
 mod walking;
 
 pub use files::{Files, FindFault};

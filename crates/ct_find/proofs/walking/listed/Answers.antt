@@ -5,13 +5,13 @@ use Rattle.ct_find.proofs.walking.listed.Goals as goal
 pub returns-in-Some-clause-row : goal.returns-in-Some-clause-row
 returns-in-Some-clause-row g c =
     let found = rw c.as_slice.ensures.value at c.in-Some.ensures in
-    (found.0, found.1, found.2, inl (got_member c.args.listing.now.rows.items c.in-Some.place found.0 found.1, refl))
+    (found.0, found.1, found.2, inl (got_member c.args.listing.now.rows c.in-Some.place found.0 found.1, refl))
 
 pub returns-in-Ok-clause-row : goal.returns-in-Ok-clause-row
 returns-in-Ok-clause-row g c =
     let added = c.in-Ok.ensures.row in (
       added.0,
-      got_last c.args.listing.now.rows.items c.list.new.listing.rows.items added.0 c.len-place.result added.1.0 (search rules),
+      got_last c.args.listing.now.rows c.list.new.listing.rows added.0 c.len-place.result added.1.0 (search rules),
       added.1.1,
       inr (rw c.as_slice.ensures.value at c.in_default.ensures, added.1),
     )
