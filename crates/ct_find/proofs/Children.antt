@@ -173,7 +173,7 @@ children_has : (folder : List ℕ) (paths : List (List ℕ)) (k p : List ℕ) �
 children_has folder [] k p m h = absurd (contains_none k m)
 children_has folder (path ∷ paths) k p m h = elim (contains_cases path paths k m) [
   | inl e ↦ contains_left (child_of folder (entry_at folder path)) (children_of folder paths) p
-  (child_has folder (entry_at folder path) p (subst (λ (q : List ℕ). MakesChild folder (entry_at folder q) p) (sym e) h))
+      (child_has folder (entry_at folder path) p (subst (λ (q : List ℕ). MakesChild folder (entry_at folder q) p) (sym e) h))
   | inr n ↦ contains_right (child_of folder (entry_at folder path)) (children_of folder paths) p (children_has folder paths k p n h)
 ]
 

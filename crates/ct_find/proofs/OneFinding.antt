@@ -162,11 +162,11 @@ unfolding Places
 one_listing settings files kind other folder place p q =
     ⊎_elim
     (λ h.
-        let counts : q.count ≡ p.count = one_sum files p.before q.count p.count (subst (λ fs. HaveEntries files fs q.count) (sym h.0) q.within.counted) p.within.counted in (
-          same_kind files kind other folder p.count p.passes
-              (subst (λ n. PassesAt files other folder n) counts (subst (λ f. PassesAt files other f q.count) (sym h.1) q.passes)),
-          h.1,
-        ))
+    let counts : q.count ≡ p.count = one_sum files p.before q.count p.count (subst (λ fs. HaveEntries files fs q.count) (sym h.0) q.within.counted) p.within.counted in (
+      same_kind files kind other folder p.count p.passes
+          (subst (λ n. PassesAt files other folder n) counts (subst (λ f. PassesAt files other f q.count) (sym h.1) q.passes)),
+      h.1,
+    ))
     (λ others. ⊎_elim
     (λ h. absurd (past files kind p.before h.0 folder p.count q.count (subst (λ fs. AreWithin files fs q.count) h.1 q.within) p.within p.passes))
     (λ h. absurd (past files other q.before h.0 place q.count p.count (subst (λ fs. AreWithin files fs p.count) h.1 p.within) q.within q.passes))

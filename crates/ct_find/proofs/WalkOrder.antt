@@ -52,8 +52,8 @@ walk_at files build zero start long = made files build start [] [] (no_children 
 walk_at files build (suc room) start long =
     let children = children_exist files start.path in
     let below = all_walks files build children.0 (λ p m.
-        let longer : length start.path < length p = child_longer files start.path p ((children.1.each p).0 m) in
-        walk_at files build room (record { path = p; deep = true }) (omega arith)) in
+    let longer : length start.path < length p = child_longer files start.path p ((children.1.each p).0 m) in
+    walk_at files build room (record { path = p; deep = true }) (omega arith)) in
     made files build start children.0 below.0 children.1 below.1
 
 pub walks_exist : (files : Files) (build : List ℕ) (starts : List Start) → (walks : List (List ℕ)) × AreWalks files build starts walks
@@ -82,8 +82,8 @@ mutual
 
   pub one_walks : (files : Files) (build : List ℕ) (starts : List Start) (xs ys : List (List ℕ)) → AreWalks files build starts xs → AreWalks files build starts ys → xs ≡ ys
   one_walks files build starts xs ys nothing nothing = refl
-  one_walks files build starts xs ys (followed {start = start} {starts = after} {walk = a} {walks = as} walk walks) (followed {walk = b} {walks = bs} other others) =
-      ap (λ (fs : List (List ℕ)). fs ++ as) (one_walk files build start a b walk other) ∙ ap (λ (fs : List (List ℕ)). b ++ fs) (one_walks files build after as bs walks others)
+  one_walks files build starts xs ys (followed {start = start} {starts = after} {walk = a} {walks = more} walk walks) (followed {walk = b} {walks = rest} other others) =
+      ap (λ (fs : List (List ℕ)). fs ++ more) (one_walk files build start a b walk other) ∙ ap (λ (fs : List (List ℕ)). b ++ fs) (one_walks files build after more rest walks others)
 
 -- ---- what is listed a start at a time, and the walks of the starts that are left
 

@@ -3,7 +3,7 @@
 ghost use Rattle.std.specs.Prelude.{◌≡◌, ◌++◌, ◌∷◌, [], MatchOption, OnOk, length};
 ghost use Rattle.ct_find.specs.Places.{IsFresh, StandsAt};
 
-use ct_base::{Fail, Items, Mem, Text};
+use ct_base::{Items, Mem, OutOfMemory, Text};
 use ct_outside::Entry;
 use std::alloc::Global;
 use std::collections::BTreeMap;
@@ -77,7 +77,7 @@ impl Rows {
             Ok(_) => Ok(()),
             Err(_) => {
                 let _ = self.items.pop();
-                Err(Fail::OutOfMemory)
+                Err(OutOfMemory)
             }
         }
     }

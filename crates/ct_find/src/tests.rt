@@ -134,14 +134,12 @@ fn a_folder_has_32_components_at_most(rt: HostRuntime) -> Result<(), Fail> {
 }
 
 #[test]
-fn files_and_bytes_have_limits(rt: HostRuntime) -> Result<(), Fail> {
+fn bytes_have_limits(rt: HostRuntime) -> Result<(), Fail> {
     let alloc = rt.alloc();
     let settings = settings(alloc, "t+test/**|s+src/**")?;
     let big = vec![in alloc; 32u8; 1048577]?;
     let large = vec![in alloc; 32u8; 1048576]?;
     let rows = [
-        (".h", 2000, b"x".as_slice(), 2001, "found"),
-        (".h", 2001, b"x".as_slice(), 1, "Files src/f12000.h"),
         (".h", 1, large.as_slice(), 9, "found"),
         (".h", 2, big.as_slice(), 2, "FileBytes src/f10000.h"),
         (".c", 16, large.as_slice(), 17, "found"),
@@ -161,7 +159,10 @@ fn sixteen_mebibytes_are_read(rt: HostRuntime) -> Result<(), Fail> {
     let alloc = rt.alloc();
     let settings = settings(alloc, "s+src")?;
     let large = vec![in alloc; 32u8; 1048576]?;
-    for (more, expected) in [(b"".as_slice(), "found"), (b"x".as_slice(), "AllBytes src/g.c")] {
+    for (more, expected) in [
+        (b"".as_slice(), "found"),
+        (b"x".as_slice(), "AllBytes src/g.c"),
+    ] {
         let mut tree = numbered(alloc, "src/f", ".c", 16, large.as_slice(), &[])?;
         tree.put("src/g.c", more)?;
         let ending = ending(alloc, find(alloc, &mut tree, &settings))?;

@@ -110,11 +110,7 @@ fn patterns_pick_folders(rt: HostRuntime) -> Result<(), Fail> {
         // without a wildcard: that folder alone
         ("src/a.c|src/x/b.c", "s+src", " |src/a.c  |src"),
         // the root
-        (
-            "test_a.c|a.c|a.h|x/b.c",
-            "t+|s+",
-            "|test_a.c |a.c |a.h ||",
-        ),
+        ("test_a.c|a.c|a.h|x/b.c", "t+|s+", "|test_a.c |a.c |a.h ||"),
         // nothing at or below the build root
         (
             "build/a.c|build/x/b.c|src/a.c|builds/c.c",
@@ -188,7 +184,7 @@ struct Watched {
     read: String,
 }
 
-fn watched(tree: MemTree, alloc: Global) -> Watched {
+fn watching(tree: MemTree, alloc: Global) -> Watched {
     Watched {
         tree,
         listed: String::new(alloc),
@@ -249,13 +245,38 @@ fn folders_are_listed_once_in_their_order_and_then_files_are_read(
             "|test|test/q|src|src/a|src/a/z|src/b",
             "|src/a/y.h|src/a/z/w.h|src/b/x.h|test/q/test_a.c",
         ),
-        ("t/a.h|s/a.h|i/a.h|p/a.h", "p+p|i+i|s+s|t+t", "|t|s|i|p", "|i/a.h|p/a.h|s/a.h|t/a.h"),
+        (
+            "t/a.h|s/a.h|i/a.h|p/a.h",
+            "p+p|i+i|s+s|t+t",
+            "|t|s|i|p",
+            "|i/a.h|p/a.h|s/a.h|t/a.h",
+        ),
         // the starts of a group are sorted, and each is one
-        ("src/a.c|lib/x/b.c", "s+src|s+lib/*|s+lib/x/*|s+src", "|lib|lib/x|src", "|lib/x/b.c|src/a.c"),
-        ("a/x/b.c|a b/c.c", "s+a b|s+a/**", "|a|a/x|a b", "|a b/c.c|a/x/b.c"),
-        ("src/a/b.c|src/c.c", "s+src|s+src/*", "|src|src/a", "|src/a/b.c|src/c.c"),
+        (
+            "src/a.c|lib/x/b.c",
+            "s+src|s+lib/*|s+lib/x/*|s+src",
+            "|lib|lib/x|src",
+            "|lib/x/b.c|src/a.c",
+        ),
+        (
+            "a/x/b.c|a b/c.c",
+            "s+a b|s+a/**",
+            "|a|a/x|a b",
+            "|a b/c.c|a/x/b.c",
+        ),
+        (
+            "src/a/b.c|src/c.c",
+            "s+src|s+src/*",
+            "|src|src/a",
+            "|src/a/b.c|src/c.c",
+        ),
         // a folder that was listed alone is not listed again, but those in it are
-        ("src/a/b.c|src/c.c", "t+src|s+src/**|i+src/a", "|src|src/a", "|src/a/b.c|src/c.c"),
+        (
+            "src/a/b.c|src/c.c",
+            "t+src|s+src/**|i+src/a",
+            "|src|src/a",
+            "|src/a/b.c|src/c.c",
+        ),
         // the folders in a folder are sorted by bytes
         (
             "s/b/x.h|s/B/x.h|s/a c/x.h|s/\u{e9}/x.h|s/a/x.h",
@@ -269,7 +290,7 @@ fn folders_are_listed_once_in_their_order_and_then_files_are_read(
         ("src/a.c", "t+test/**|s+src/**", "|test|src", "|src/a.c"),
     ];
     for (files, patterns, listed, read) in rows {
-        let mut tree = watched(tree_of(alloc, files, &[])?, alloc);
+        let mut tree = watching(tree_of(alloc, files, &[])?, alloc);
         let settings = settings(alloc, patterns)?;
         let ending = ending(alloc, find(alloc, &mut tree, &settings))?;
         assert_eq!(rt; ending.as_str(), "found", "{patterns} in {files}");
@@ -287,11 +308,16 @@ fn a_failed_call_ends_the_search(rt: HostRuntime) -> Result<(), Fail> {
         (TreeCall::List, 2, "|test|src", ""),
         (TreeCall::List, 3, "|test|src|src/a", ""),
         (TreeCall::Read, 1, "|test|src|src/a", "|src/a/b.c"),
-        (TreeCall::Read, 2, "|test|src|src/a", "|src/a/b.c|test/test_a.c"),
+        (
+            TreeCall::Read,
+            2,
+            "|test|src|src/a",
+            "|src/a/b.c|test/test_a.c",
+        ),
     ];
     for (call, number, listed, read) in rows {
         let files = tree_of(alloc, "src/a/b.c|test/test_a.c", &[(call, number)])?;
-        let mut tree = watched(files, alloc);
+        let mut tree = watching(files, alloc);
         let settings = settings(alloc, "t+test/**|s+src/**")?;
         let ending = ending(alloc, find(alloc, &mut tree, &settings))?;
         assert_eq!(rt; ending.as_str(), "read", "{call:?} {number}");
@@ -326,43 +352,59 @@ fn the_first_folder_in_the_order_of_listing_is_too_deep(rt: HostRuntime) -> Resu
             let path = format!(in alloc; "{folder}/x.h")?;
             files.put(path.as_str(), b"x")?;
         }
-        let mut tree = watched(files, alloc);
+        let mut tree = watching(files, alloc);
         let settings = settings(alloc, patterns)?;
         let ending = ending(alloc, find(alloc, &mut tree, &settings))?;
         let folder = deep(alloc, first, 33)?;
         let expected = format!(in alloc; "FolderDepth {folder}")?;
         assert_eq!(rt; ending.as_str(), expected.as_str(), "{patterns}");
-        assert!(rt; !tree.listed.as_str().ends_with(folder.as_str()), "{patterns}");
+        assert!(rt;
+            !tree.listed.as_str().ends_with(folder.as_str()),
+            "{patterns}"
+        );
         assert_eq!(rt; tree.read.as_str(), "", "{patterns}");
     }
     Ok(())
 }
 
-/// A tree whose lists give these numbers of files, one after another, of which the first is a
-/// header. One read finds no file. It does not tell its files.
+/// A tree whose lists give these numbers of files, one after another, of which the first ones are
+/// headers. One read finds no file. It does not tell its files.
 #[derive(Drop)]
 struct Wide {
     counts: Vec<u64>,
+    headers: u64,
     absent: usize,
     lists: usize,
     reads: usize,
 }
 
-fn wide(alloc: Global, counts: &[u64], absent: usize) -> Result<Wide, Fail> {
+fn wide_tree(alloc: Global, counts: &[u64], headers: u64, absent: usize) -> Result<Wide, Fail> {
     Ok(Wide {
         counts: Vec::from_slice(alloc, counts)?,
+        headers,
         absent,
         lists: 0,
         reads: 0,
     })
 }
 
-fn add_numbered(alloc: Global, count: u64, into: &mut Vec<Entry>) -> Result<(), TreeError> {
+fn add_numbered(
+    alloc: Global,
+    count: u64,
+    headers: u64,
+    into: &mut Vec<Entry>,
+) -> Result<(), TreeError> {
     for number in 0..count {
-        let end = if number == 0 { "h" } else { "txt" };
+        let end = if number < headers { "h" } else { "txt" };
         let name = format!(in alloc; "{number}.{end}")?;
         let name = Text::new(name);
-        if into.push(Entry { name, folder: false }).is_err() {
+        if into
+            .push(Entry {
+                name,
+                folder: false,
+            })
+            .is_err()
+        {
             return Err(TreeError::OutOfMemory);
         }
     }
@@ -386,7 +428,7 @@ impl Tree for Wide {
     ) -> Result<Found, TreeError> {
         let count = self.counts.get(self.lists).copied().unwrap_or(0);
         self.lists = self.lists.saturating_add(1);
-        add_numbered(alloc, count, into)?;
+        add_numbered(alloc, count, self.headers, into)?;
         Ok(Found::There)
     }
 
@@ -420,7 +462,7 @@ fn twenty_thousand_entries_are_listed_at_most(rt: HostRuntime) -> Result<(), Fai
         ([0, 20000, 1], "Entries c", 3, 0),
     ];
     for (counts, expected, lists, reads) in rows {
-        let mut tree = wide(alloc, &counts, 0)?;
+        let mut tree = wide_tree(alloc, &counts, 1, 0)?;
         let settings = settings(alloc, "s+a|s+b|s+c")?;
         let ending = ending(alloc, find(alloc, &mut tree, &settings))?;
         assert_eq!(rt; ending.as_str(), expected);
@@ -439,14 +481,32 @@ fn a_listed_file_that_is_absent_is_left_out(rt: HostRuntime) -> Result<(), Fail>
         (3, "|a/0.h|b/0.h"),
     ];
     for (absent, headers) in rows {
-        let mut tree = wide(alloc, &[1, 1, 1], absent)?;
+        let mut tree = wide_tree(alloc, &[1, 1, 1], 1, absent)?;
         let settings = settings(alloc, "s+a|s+b|s+c")?;
         let Ok(found) = find(alloc, &mut tree, &settings) else {
             return Err(Fail::from("a limit or a fault"));
         };
         assert_eq!(rt; shown(alloc, &found.headers)?.as_str(), headers, "{absent}");
-        assert_eq!(rt; shown(alloc, &found.folders)?.as_str(), "|a|b|c", "{absent}");
+        assert_eq!(rt;
+            shown(alloc, &found.folders)?.as_str(),
+            "|a|b|c",
+            "{absent}"
+        );
         assert_eq!(rt; tree.reads, 3, "{absent}");
+    }
+    Ok(())
+}
+
+#[test]
+fn two_thousand_files_are_read_at_most(rt: HostRuntime) -> Result<(), Fail> {
+    let alloc = rt.alloc();
+    let rows = [(2000, "found", 2000), (2001, "Files src/999.h", 0)];
+    for (count, expected, reads) in rows {
+        let mut tree = wide_tree(alloc, &[count], count, 0)?;
+        let settings = settings(alloc, "s+src")?;
+        let ending = ending(alloc, find(alloc, &mut tree, &settings))?;
+        assert_eq!(rt; ending.as_str(), expected);
+        assert_eq!(rt; (tree.lists, tree.reads), (1, reads), "{expected}");
     }
     Ok(())
 }
