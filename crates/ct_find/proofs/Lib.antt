@@ -9,6 +9,7 @@ mod OrderLemmas
 mod PickLemmas
 mod ReachLemmas
 mod ReadLemmas
+mod RowsLemmas
 mod SetLemmas
 mod StartLemmas
 mod WalkLemmas
