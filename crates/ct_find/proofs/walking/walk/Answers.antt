@@ -8,7 +8,7 @@ use Rattle.ct_find.proofs.walking.walk.Goals as goal
 
 pub loop-init : goal.loop-init
 loop-init g c = (
-  λ files told. walked_none files c.args.build.now (reverse c.args.starts.items) c.new.result.items c.new.ensures.items,
+  λ files told. walked_none files c.args.build.now (reverse c.args.starts.items) c.new.result c.new.ensures,
   omega arith,
   refl,
   refl,
