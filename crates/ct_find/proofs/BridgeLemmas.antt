@@ -89,7 +89,7 @@ listing_passes settings files starts kind folder whole p =
         whole = whole;
         walks = before ++ folder ∷ first.0;
         are = subst (λ (fs : List (List ℕ)). AreWalks files build starts (before ++ fs)) on (walks_of files build starts (p.start ∷ p.left) before more.0 p.walked.lists more.1);
-        once = sym split.1;
+        once = split.1;
       };
       count = p.count;
       within = within_of files build starts (p.start ∷ p.left) p.rows p.count p.walked;
