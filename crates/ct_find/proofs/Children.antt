@@ -17,10 +17,11 @@ use Rattle.std.proofs.lemmas.Map.Text.{is_eq-slice_cmp}
 use Rattle.ct_outside.specs.Files.{EachOnce, Files, IsEntry, entry_at, is_slash, rest_below}
 use Rattle.ct_outside.specs.declared.tree.Entry.{Entry}
 use Rattle.ct_find.specs.Order.{AreChildren, IsChild, inside}
+use Rattle.ct_find.specs.Sets.{AreSorted}
 use Rattle.ct_find.proofs.Members.{contains_append, contains_cases, contains_first, contains_left, contains_more, contains_none, contains_right}
 use Rattle.ct_find.proofs.OrderLemmas.{member_seen, seen_member}
 use Rattle.ct_find.proofs.ReachLemmas.{below_is}
-use Rattle.ct_find.proofs.SetLemmas.{sorted_cons, sorted_one}
+use Rattle.ct_find.proofs.SetLemmas.{sorted_as, sorted_cons, sorted_one}
 use Rattle.ct_find.proofs.WalkedLemmas.{same_entry}
 
 -- ---- any paths make a sorted set
@@ -119,6 +120,9 @@ rising_of (x ∷ xs) =
       ),
     )
 
+pub sorted_of : (xs : List (List ℕ)) → (ys : List (List ℕ)) × AreSorted (Contains xs) ys
+sorted_of xs = let r = rising_of xs in (r.0, record { each = r.2; once = rising_once r.0 r.1; sorted = rising_sorted r.0 r.1 })
+
 -- ---- the folders in a folder, from the paths of all files
 
 -- a folder with a name
@@ -191,16 +195,13 @@ in_paths files k m = (by_bytes files k).1 (member_seen k (keys files) m)
 
 pub children_exist : (files : Files) (folder : List ℕ) → (children : List (List ℕ)) × AreChildren files folder children
 children_exist files folder =
-    let r = rising_of (children_of folder (keys files)) in (
-      r.0,
-      record {
-        each = λ p. (
-          (λ m. let c = children_in folder (keys files) p ((r.2 p).0 m) in (c.2.0, c.2.1, c.2.2, (c.0, in_paths files c.0 c.1, c.2.3))),
-          (λ h. (r.2 p).1 (children_has folder (keys files) h.3.0 p (path_in files h.3.0 h.3.1) (h.0, h.1, h.2, h.3.2))),
-        );
-        once = rising_once r.0 r.1;
-        sorted = rising_sorted r.0 r.1;
-      },
+    let set = sorted_of (children_of folder (keys files)) in (
+      set.0,
+      sorted_as (Contains (children_of folder (keys files))) (IsChild files folder) set.0
+          (λ p. (
+            (λ m. let c = children_in folder (keys files) p m in (c.2.0, c.2.1, c.2.2, (c.0, in_paths files c.0 c.1, c.2.3))),
+            (λ h. children_has folder (keys files) h.3.0 p (path_in files h.3.0 h.3.1) (h.0, h.1, h.2, h.3.2)),
+          )) set.1,
     )
 
 -- ---- a folder in a folder has a longer path, and none is longer than the paths of all files

@@ -5,6 +5,7 @@ mod GroupLemmas
 mod KindLemmas
 mod Members
 mod NameLemmas
+mod OrderExists
 mod OrderLemmas
 mod PickLemmas
 mod ReachLemmas

@@ -73,7 +73,7 @@ one_whole settings xs ys f g =
 
 -- ---- the order of listing
 
-one_order : (settings : ProjectSettings) (files : Files) (xs ys : List (List ℕ)) → IsOrder settings files xs → IsOrder settings files ys → xs ≡ ys
+pub one_order : (settings : ProjectSettings) (files : Files) (xs ys : List (List ℕ)) → IsOrder settings files xs → IsOrder settings files ys → xs ≡ ys
 one_order settings files xs ys f g =
     let starts : g.starts ≡ f.starts = one_whole settings g.starts f.starts g.whole f.whole in
     let walks : f.walks ≡ g.walks = one_walks files settings.build_root f.starts f.walks g.walks f.are (subst (λ ss. AreWalks files settings.build_root ss g.walks) starts g.are) in

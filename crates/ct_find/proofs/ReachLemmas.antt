@@ -108,7 +108,7 @@ name_before (b ∷ bs) tail plain =
     let r = or_false (is_slash b) (list_any is_slash bs) plain in
     front_step b bs (bs ++ 47 ∷ tail) (is_slash b) r.0 (name_before bs tail r.1)
 
-or_right : (x y : Bool) → y ≡ true → (x || y) ≡ true
+pub or_right : (x y : Bool) → y ≡ true → (x || y) ≡ true
 or_right true y h = refl
 or_right false y h = h
 
@@ -155,7 +155,7 @@ child_on_way files front n more g f is names own e folder =
     some_below None x h = absurd (cc)
     some_below (Some r) x h = (r, refl)
 
-or_true : (a b : Bool) → (a || b) ≡ true → (a ≡ true) ⊎ (b ≡ true)
+pub or_true : (a b : Bool) → (a || b) ≡ true → (a ≡ true) ⊎ (b ≡ true)
 or_true true b e = inl refl
 or_true false b e = inr e
 

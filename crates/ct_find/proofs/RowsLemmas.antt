@@ -43,8 +43,8 @@ pub more_places : (rows new : List Row) (row : Row) (old after : BTreeMap (Strin
     → ((folder : List ℕ) → get_by_text after folder ≡ update bytes_eq (get_by_text old) key (Some place) folder) → HavePlaces new after
 more_places rows new row old after place key is same last known sets =
     subst (λ (rs : List Row). HavePlaces rs after) (sym is) (λ folder.
-        subst (λ (o : Option ℕ). MatchOption o (IsFresh (rows ++ row ∷ []) folder) (StandsAt (rows ++ row ∷ []) folder)) (sym (sets folder))
-        (known_at rows row folder place (get_by_text old folder) last (known folder) (bytes_eq key folder) (ap (λ (k : List ℕ). bytes_eq k folder) (sym same))))
+    subst (λ (o : Option ℕ). MatchOption o (IsFresh (rows ++ row ∷ []) folder) (StandsAt (rows ++ row ∷ []) folder)) (sym (sets folder))
+    (known_at rows row folder place (get_by_text old folder) last (known folder) (bytes_eq key folder) (ap (λ (k : List ℕ). bytes_eq k folder) (sym same))))
 
 -- the folder that was appended last is taken away
 pub same_places : (rows more less : List Row) (row : Row) (old after : BTreeMap (String Global) ℕ) (count : ℕ) → more ≡ rows ++ row ∷ [] → count ≡ length more → less ≡ take (count - 1) more
@@ -53,4 +53,4 @@ same_places rows more less row old after count added all taken same known =
     let whole : length more ≡ length rows + length (row ∷ []) = ap length added ∙ length-append rows (row ∷ []) in
     let front : less ≡ rows = taken ∙ ap (λ (rs : List Row). take (count - 1) rs) added ∙ take_at rows (row ∷ []) (count - 1) (omega arith) in
     subst (λ (rs : List Row). HavePlaces rs after) (sym front) (λ folder.
-        subst (λ es. MatchOption (lookup (is_at (λ k. slice_cmp nat_cmp folder (string_bytes k))) es) (IsFresh rows folder) (StandsAt rows folder)) (sym same) (known folder))
+    subst (λ es. MatchOption (lookup (is_at (λ k. slice_cmp nat_cmp folder (string_bytes k))) es) (IsFresh rows folder) (StandsAt rows folder)) (sym same) (known folder))

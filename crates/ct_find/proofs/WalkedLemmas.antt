@@ -27,7 +27,7 @@ use Rattle.ct_find.proofs.OrderLemmas.{lists_then, places_from, places_have, pla
 use Rattle.ct_find.proofs.SetLemmas.{sorted_as}
 use Rattle.ct_find.specs.Places.{IsFresh}
 
-both_true : (a b : Bool) → (a && b) ≡ true → (a ≡ true) × (b ≡ true)
+pub both_true : (a b : Bool) → (a && b) ≡ true → (a ≡ true) × (b ≡ true)
 both_true true b e = (refl, e)
 both_true false b e = absurd (false≢true e)
 

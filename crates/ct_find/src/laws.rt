@@ -2,6 +2,7 @@
 
 ghost use Rattle.std.specs.Prelude.{◌≡◌, ℕ, List};
 ghost use Rattle.ct_base.specs.declared.limits.LimitKind.{LimitKind};
+ghost use Rattle.ct_find.specs.Order.{IsOrder};
 ghost use Rattle.ct_find.specs.Results.{IsFound, Passes, Stays};
 ghost use Rattle.ct_find.specs.declared.files.Files.{Files as Found};
 ghost use Rattle.ct_outside.specs.Files.{Files};
@@ -16,4 +17,11 @@ pub fn one_finding()
         → Stays settings files → Passes settings files kind path → ⊥ }
     ensures found { (settings : ProjectSettings) (files : Files) (found other : Found)
         → IsFound settings files found → IsFound settings files other → found ≡ other }
+{}
+
+/// Each project has one order of listing.
+pub fn one_order()
+    ensures some { (settings : ProjectSettings) (files : Files) → (folders : List (List ℕ)) × IsOrder settings files folders }
+    ensures one { (settings : ProjectSettings) (files : Files) (folders others : List (List ℕ))
+        → IsOrder settings files folders → IsOrder settings files others → folders ≡ others }
 {}

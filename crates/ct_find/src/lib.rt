@@ -17,5 +17,5 @@ mod tree_tests;
 mod walking;
 
 pub use files::{Files, FindFault};
-pub use laws::one_finding;
+pub use laws::{one_finding, one_order};
 pub use search::find;

@@ -368,12 +368,13 @@ fn the_first_folder_in_the_order_of_listing_is_too_deep(rt: HostRuntime) -> Resu
 }
 
 /// A tree whose lists give these numbers of files, one after another, of which the first ones are
-/// headers. One read finds no file. It does not tell its files.
+/// headers. One read finds no file, and one ends for want of memory. It does not tell its files.
 #[derive(Drop)]
 struct Wide {
     counts: Vec<u64>,
     headers: u64,
     absent: usize,
+    last: usize,
     lists: usize,
     reads: usize,
 }
@@ -383,6 +384,7 @@ fn wide_tree(alloc: Global, counts: &[u64], headers: u64, absent: usize) -> Resu
         counts: Vec::from_slice(alloc, counts)?,
         headers,
         absent,
+        last: 0,
         lists: 0,
         reads: 0,
     })
@@ -440,6 +442,9 @@ impl Tree for Wide {
         _into: &mut Vec<u8>,
     ) -> Result<Found, TreeError> {
         self.reads = self.reads.saturating_add(1);
+        if self.reads == self.last {
+            return Err(TreeError::OutOfMemory);
+        }
         if self.reads == self.absent {
             return Ok(Found::Absent);
         }
@@ -500,9 +505,10 @@ fn a_listed_file_that_is_absent_is_left_out(rt: HostRuntime) -> Result<(), Fail>
 #[test]
 fn two_thousand_files_are_read_at_most(rt: HostRuntime) -> Result<(), Fail> {
     let alloc = rt.alloc();
-    let rows = [(2000, "found", 2000), (2001, "Files src/999.h", 0)];
+    let rows = [(2000, "memory", 1), (2001, "Files src/999.h", 0)];
     for (count, expected, reads) in rows {
         let mut tree = wide_tree(alloc, &[count], count, 0)?;
+        tree.last = 1;
         let settings = settings(alloc, "s+src")?;
         let ending = ending(alloc, find(alloc, &mut tree, &settings))?;
         assert_eq!(rt; ending.as_str(), expected);
