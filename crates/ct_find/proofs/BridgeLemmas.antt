@@ -1,5 +1,5 @@
 -- What the listed folders say of the whole tree of files.
-use Rattle.std.proofs.Common.{ℕ, ◌≤◌, inl, inr, List, [], ◌∷◌, ◌++◌, Ok, Err, length, map, refl, sym, subst, rules}
+use Rattle.std.proofs.Common.{ℕ, ◌≤◌, inl, inr, List, [], ◌∷◌, ◌++◌, false, Ok, Err, length, map, refl, sym, ap, subst, ◌∙◌, ◌≡◌, rules, append-nil}
 use Rattle.std.specs.Prelude.{All, sum_by, Result}
 use Rattle.std.specs.List.{Contains}
 use Rattle.std.proofs.lemmas.List.Elements.{All-cons}
@@ -15,20 +15,21 @@ use Rattle.ct_find.specs.declared.files.Files.{Files as Found}
 use Rattle.ct_find.specs.declared.picking.Kind.TheVariants as kinds
 use Rattle.ct_find.specs.declared.search.FileLists.{FileLists}
 use Rattle.ct_find.specs.declared.starts.Start.{Start}
-use Rattle.ct_find.specs.declared.walking.Row.{Row}
+use Rattle.ct_find.specs.declared.rows.Row.{Row}
 use Rattle.ct_find.specs.Finding.{FindsListed, IsListed}
-use Rattle.ct_find.specs.Folders.{IsHeader, IsListed as IsListedFile, IsSource, IsTest, in_include, in_source, in_support, in_test}
+use Rattle.ct_find.specs.Folders.{is_at_or_below, IsHeader, IsListed as IsListedFile, IsSource, IsTest, in_include, in_source, in_support, in_test}
 use Rattle.ct_find.specs.Limits.{AreWithin, HaveEntries, ListingPasses, depth_of, most_components}
-use Rattle.ct_find.specs.Order.{IsWhole, first_places}
+use Rattle.ct_find.specs.Order.{AreWalks, IsOrder, IsWhole, nothing, first_places}
 use Rattle.ct_find.specs.Results.{AreFolders, Finds, IsFound, Listed}
-use Rattle.ct_find.specs.Rows.{AreListings, AreThere, IsInLists, IsMatchedRow, IsPicked, IsWalked, WalkPasses}
+use Rattle.ct_find.specs.Rows.{Lists, AreListings, AreThere, IsInLists, IsMatchedRow, IsPicked, IsWalked, WalkPasses}
 use Rattle.ct_find.specs.Sets.{AreSorted}
 use Rattle.ct_find.proofs.GroupLemmas.{group_paths, matched_group}
 use Rattle.ct_find.proofs.KindLemmas.{GroupsAre, headers_are, sources_are, tests_are}
 use Rattle.ct_find.proofs.Members.{contains_append, contains_first, contains_left, contains_more, contains_none, contains_right, map_contains}
-use Rattle.ct_find.proofs.OrderLemmas.{places_have}
+use Rattle.ct_find.proofs.OrderLemmas.{places_split}
 use Rattle.ct_find.proofs.ReachLemmas.{ArePaths}
 use Rattle.ct_find.proofs.SetLemmas.{sorted_as}
+use Rattle.ct_find.proofs.WalkOrder.{walks_begin, walks_exist, walks_of}
 use Rattle.ct_find.proofs.WalkedLemmas.{fresh_out}
 
 all_of : (P : List ℕ → Type 0) (xs : List (List ℕ)) → ((x : List ℕ) → Contains xs x → P x) → All P xs
@@ -49,32 +50,51 @@ have_entries files (row ∷ rows) h = (
 )
 
 -- no limit is passed by the folders that were listed
-within_of : (files : Files) (build : List ℕ) (starts left : List Start) (rows : List Row) (count : ℕ) (w : IsWalked files build starts left rows count) → AreWithin files w.folders count
+within_of : (files : Files) (build : List ℕ) (starts left : List Start) (rows : List Row) (count : ℕ) (w : IsWalked files build starts left rows count)
+    → AreWithin files (first_places w.folders) count
 within_of files build starts left rows count w = record {
-  shallow = all_of (λ (f : List ℕ). depth_of f ≤ most_components) w.folders (λ f m.
-      let h = places_have [] w.folders f m (contains_none f) in
-      let r = map_contains (λ (x : Row). x.folder) rows f (subst (λ (fs : List (List ℕ)). Contains fs f) (sym w.rows_are) h) in
+  shallow = all_of (λ (f : List ℕ). depth_of f ≤ most_components) (first_places w.folders) (λ f m.
+      let r = map_contains (λ (x : Row). x.folder) rows f (subst (λ (fs : List (List ℕ)). Contains fs f) (sym w.rows_are) m) in
       subst (λ (x : List ℕ). depth_of x ≤ most_components) r.2 (of_all rows r.0 w.shallow r.1));
   counted = subst (λ (n : ℕ). HaveEntries files (first_places w.folders) n) (sym w.counted) (subst (λ (fs : List (List ℕ)). HaveEntries files fs (sum_by (λ (r : Row). length r.entries) rows)) w.rows_are (have_entries files rows w.listings));
   few = w.few;
 }
 
-listing_passes : (settings : ProjectSettings) (files : Files) (starts : List Start) (kind : LimitKind) (folder : List ℕ) → IsWhole settings starts → WalkPasses files settings.build_root starts kind folder
-    → ListingPasses settings files kind folder
-listing_passes settings files starts kind folder whole p = record {
+-- the folders that were listed are all, in the order of listing
+order_of : (settings : ProjectSettings) (files : Files) (starts : List Start) (folders : List (List ℕ)) → IsWhole settings starts → Lists files settings.build_root starts folders []
+    → IsOrder settings files (first_places folders)
+order_of settings files starts folders whole lists = record {
   starts = starts;
   whole = whole;
-  before = p.walked.folders;
-  start = p.start;
-  left = p.left;
-  count = p.count;
-  lists = p.walked.lists;
-  is = p.is;
-  outside = p.outside;
-  fresh = fresh_out p.rows folder p.walked.folders p.walked.rows_are p.fresh;
-  within = within_of files settings.build_root starts (p.start ∷ p.left) p.rows p.count p.walked;
-  passes = p.passes;
+  walks = folders;
+  are = subst (λ (fs : List (List ℕ)). AreWalks files settings.build_root starts fs) (append-nil folders) (walks_of files settings.build_root starts [] folders [] lists nothing);
+  once = refl;
 }
+
+-- the folder that passes a limit is the next one in the order of listing
+listing_passes : (settings : ProjectSettings) (files : Files) (starts : List Start) (kind : LimitKind) (folder : List ℕ) → IsWhole settings starts → WalkPasses files settings.build_root starts kind folder
+    → ListingPasses settings files kind folder
+listing_passes settings files starts kind folder whole p =
+    let build : List ℕ = settings.build_root in
+    let before : List (List ℕ) = p.walked.folders in
+    let more = walks_exist files build (p.start ∷ p.left) in
+    let first = walks_begin files build p.start p.left more.0 (subst (λ (f : List ℕ). is_at_or_below build f ≡ false) p.is p.outside) more.1 in
+    let on : more.0 ≡ folder ∷ first.0 = first.1 ∙ ap (λ (f : List ℕ). f ∷ first.0) (sym p.is) in
+    let fresh : Contains before folder → ⊥ = fresh_out p.rows folder before p.walked.rows_are p.fresh in
+    let split = places_split before folder first.0 fresh in record {
+      before = first_places before;
+      rest = split.0;
+      order = record {
+        starts = starts;
+        whole = whole;
+        walks = before ++ folder ∷ first.0;
+        are = subst (λ (fs : List (List ℕ)). AreWalks files build starts (before ++ fs)) on (walks_of files build starts (p.start ∷ p.left) before more.0 p.walked.lists more.1);
+        once = split.1;
+      };
+      count = p.count;
+      within = within_of files build starts (p.start ∷ p.left) p.rows p.count p.walked;
+      passes = p.passes;
+    }
 
 -- the starts of the four groups
 whole_paths : (settings : ProjectSettings) (starts : List Start) → IsWhole settings starts → ArePaths starts
@@ -105,19 +125,19 @@ groups_are settings files starts rows count h w =
 
 module _ (settings : ProjectSettings) (files : Files) (lists : FileLists) (paths : List (List ℕ)) (l : IsListed settings files lists paths) where
   rows : List Row
-  rows = l.listing.rows.items
+  rows = l.listing.rows
 
-  are : GroupsAre settings files l.listing.rows.items
-  are = groups_are settings files l.starts l.listing.rows.items l.listing.entries l.whole l.walked
+  are : GroupsAre settings files l.listing.rows
+  are = groups_are settings files l.starts l.listing.rows l.listing.entries l.whole l.walked
 
   pub set_tests : AreSorted (IsTest settings files) lists.tests
-  set_tests = sorted_as (IsPicked l.listing.rows.items settings kinds.Test) (IsTest settings files) lists.tests (tests_are settings files l.listing.rows.items l.walked.listings l.are.groups are) l.are.tests
+  set_tests = sorted_as (IsPicked l.listing.rows settings kinds.Test) (IsTest settings files) lists.tests (tests_are settings files l.listing.rows l.walked.listings l.are.groups are) l.are.tests
 
   pub set_sources : AreSorted (IsSource settings files) lists.sources
-  set_sources = sorted_as (IsPicked l.listing.rows.items settings kinds.Source) (IsSource settings files) lists.sources (sources_are settings files l.listing.rows.items l.walked.listings l.are.groups are) l.are.sources
+  set_sources = sorted_as (IsPicked l.listing.rows settings kinds.Source) (IsSource settings files) lists.sources (sources_are settings files l.listing.rows l.walked.listings l.are.groups are) l.are.sources
 
   pub set_headers : AreSorted (IsHeader settings files) lists.headers
-  set_headers = sorted_as (IsPicked l.listing.rows.items settings kinds.Header) (IsHeader settings files) lists.headers (headers_are settings files l.listing.rows.items l.walked.listings l.are.groups are) l.are.headers
+  set_headers = sorted_as (IsPicked l.listing.rows settings kinds.Header) (IsHeader settings files) lists.headers (headers_are settings files l.listing.rows l.walked.listings l.are.groups are) l.are.headers
 
   pub set_all : AreSorted (IsListedFile settings files) paths
   set_all = sorted_as (IsInLists lists) (IsListedFile settings files) paths (λ p. (
@@ -132,12 +152,10 @@ module _ (settings : ProjectSettings) (files : Files) (lists : FileLists) (paths
   the_listed = record {
     paths = paths;
     stays = record {
-      starts = l.starts;
-      whole = l.whole;
-      folders = l.walked.folders;
+      folders = first_places l.walked.folders;
+      order = order_of settings files l.starts l.walked.folders l.whole l.walked.lists;
       count = l.listing.entries;
-      lists = l.walked.lists;
-      within = within_of files settings.build_root l.starts [] l.listing.rows.items l.listing.entries l.walked;
+      within = within_of files settings.build_root l.starts [] l.listing.rows l.listing.entries l.walked;
     };
     all = set_all;
   }
@@ -148,10 +166,10 @@ module _ (settings : ProjectSettings) (files : Files) (lists : FileLists) (paths
     source = l.are.folders.source;
     test = l.are.folders.test;
     support = l.are.folders.support;
-    include_folders = sorted_as (IsMatchedRow l.listing.rows.items settings.include) (in_include settings files) l.are.folders.include are.include l.are.folders.include_folders;
-    source_folders = sorted_as (IsMatchedRow l.listing.rows.items settings.source) (in_source settings files) l.are.folders.source are.source l.are.folders.source_folders;
-    test_folders = sorted_as (IsMatchedRow l.listing.rows.items settings.test) (in_test settings files) l.are.folders.test are.test l.are.folders.test_folders;
-    support_folders = sorted_as (IsMatchedRow l.listing.rows.items settings.support) (in_support settings files) l.are.folders.support are.support l.are.folders.support_folders;
+    include_folders = sorted_as (IsMatchedRow l.listing.rows settings.include) (in_include settings files) l.are.folders.include are.include l.are.folders.include_folders;
+    source_folders = sorted_as (IsMatchedRow l.listing.rows settings.source) (in_source settings files) l.are.folders.source are.source l.are.folders.source_folders;
+    test_folders = sorted_as (IsMatchedRow l.listing.rows settings.test) (in_test settings files) l.are.folders.test are.test l.are.folders.test_folders;
+    support_folders = sorted_as (IsMatchedRow l.listing.rows settings.support) (in_support settings files) l.are.folders.support are.support l.are.folders.support_folders;
     whole = l.are.folders.whole;
   }
 

@@ -84,7 +84,7 @@ pub listed_there : (files texts : Files) (paths : List (List ℕ)) → AreThere 
 listed_there files texts paths there own p m = ap is_some (own p m) ∙ there p m
 
 pub listed_by : (settings : ProjectSettings) (files : Files) (starts : List Start) (listing : Listing) (lists : FileLists) (paths : List (List ℕ)) → IsWhole settings starts
-    → IsWalked files settings.build_root starts [] listing.rows.items listing.entries → AreLists settings listing.rows.items lists → AreSorted (IsInLists lists) paths → IsListed settings files lists paths
+    → IsWalked files settings.build_root starts [] listing.rows listing.entries → AreLists settings listing.rows lists → AreSorted (IsInLists lists) paths → IsListed settings files lists paths
 listed_by settings files starts listing lists paths whole walked are all = record { starts = starts; whole = whole; listing = listing; walked = walked; are = are; all = all }
 
 -- each file of a list is there, so none is left out

@@ -12,10 +12,10 @@ use Rattle.ct_outside.specs.Matching.{FitsByte, Matches, MatchesName, double_sta
 use Rattle.ct_outside.specs.Paths.{components_of, path_of}
 use Rattle.ct_settings.specs.declared.record.Pattern.{Pattern}
 use Rattle.ct_find.specs.declared.starts.Start.{Start}
-use Rattle.ct_find.specs.declared.walking.Row.{Row}
+use Rattle.ct_find.specs.declared.rows.Row.{Row}
 use Rattle.ct_find.specs.Folders.{InGroup, IsAdded, IsPath, is_at_or_below}
-use Rattle.ct_find.specs.Order.{AreStarts, IsStart, Lists, has_wildcard, is_deep, start_of}
-use Rattle.ct_find.specs.Rows.{IsMatched, IsMatchedRow, IsWalked}
+use Rattle.ct_find.specs.Order.{AreStarts, IsStart, has_wildcard, is_deep, start_of}
+use Rattle.ct_find.specs.Rows.{IsMatched, IsMatchedRow, IsWalked, Lists}
 use Rattle.ct_find.proofs.Members.{contains_first, contains_map, contains_none, contains_right, map_contains}
 use Rattle.ct_find.proofs.NameLemmas.{component_name, components_of-path_of, start_path, while_in}
 use Rattle.ct_find.proofs.OrderLemmas.{places_from, places_have}

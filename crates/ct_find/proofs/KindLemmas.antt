@@ -13,7 +13,7 @@ use Rattle.ct_settings.specs.declared.record.ProjectSettings.{ProjectSettings}
 use Rattle.ct_find.specs.declared.picking.Groups.{Groups}
 use Rattle.ct_find.specs.declared.picking.Kind.{Kind}
 use Rattle.ct_find.specs.declared.picking.Kind.TheVariants.{Test, Source, Header}
-use Rattle.ct_find.specs.declared.walking.Row.{Row}
+use Rattle.ct_find.specs.declared.rows.Row.{Row}
 use Rattle.ct_find.specs.Folders.{InGroup, IsFileIn, IsHeader, IsSource, IsTest, in_include, in_source, in_support, in_test, is_test_name}
 use Rattle.ct_find.specs.Order.{inside}
 use Rattle.ct_find.specs.Rows.{AreGroups, AreListings, HaveGroups, IsMatched, IsMatchedRow, IsPicked, kind_of}

@@ -1,16 +1,20 @@
 mod BridgeLemmas
+mod Children
 mod FindLemmas
 mod GroupLemmas
 mod KindLemmas
 mod Members
 mod NameLemmas
+mod OrderExists
 mod OrderLemmas
 mod PickLemmas
 mod ReachLemmas
 mod ReadLemmas
+mod RowsLemmas
 mod SetLemmas
 mod StartLemmas
 mod WalkLemmas
+mod WalkOrder
 mod WalkedLemmas
 pub mod OneFinding
 mod Ordered

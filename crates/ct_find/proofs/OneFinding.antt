@@ -1,10 +1,11 @@
 -- The search passes one limit at most, or none.
-use Rattle.std.proofs.Common.{◌≡◌, ℕ, zero, suc, ◌+◌, ◌<◌, ◌≤◌, ◌⊎◌, inl, inr, List, [], ◌∷◌, ◌++◌, Bool, true, false, length, map, refl, sym, ap, subst, ◌∙◌, ⊎_elim, arith, append_assoc, append-nil}
-use Rattle.std.specs.Prelude.{Option, Some, None, All, IsTrue, slice_get, if◌then◌else◌, cond}
+use Rattle.std.proofs.Common.{◌≡◌, ℕ, ◌+◌, ◌<◌, ◌≤◌, ◌⊎◌, inl, inr, List, [], ◌∷◌, ◌++◌, Bool, true, false, length, map, refl, sym, ap, subst, ◌∙◌, ⊎_elim, arith}
+use Rattle.std.specs.Prelude.{Option, Some, IsTrue, slice_get}
 use Rattle.std.specs.List.{Contains, list_any}
 use Rattle.std.specs.Str.{bytes_eq}
-use Rattle.std.specs.FinMap.{get}
+use Rattle.std.specs.FinMap.{get, nat_cmp-IsAntisymmetric, same_map, slice_cmp-IsAntisymmetric}
 use Rattle.std.proofs.lemmas.Bool.{false≢true}
+use Rattle.std.proofs.lemmas.Cmp.{nat_list_cmp_total}
 use Rattle.std.proofs.lemmas.Option.{slice_get_past}
 use Rattle.ct_base.specs.declared.limits.LimitKind.{LimitKind}
 use Rattle.ct_base.specs.declared.limits.LimitKind.TheVariants as limits
@@ -12,20 +13,19 @@ use Rattle.ct_outside.specs.Files.{Files, IsListing}
 use Rattle.ct_outside.specs.declared.tree.Entry.{Entry}
 use Rattle.ct_settings.specs.declared.record.Pattern.{Pattern}
 use Rattle.ct_settings.specs.declared.record.ProjectSettings.{ProjectSettings}
+use Rattle.ct_find.specs.declared.files.Files.{Files as Found}
 use Rattle.ct_find.specs.declared.starts.Start.{Start}
-use Rattle.ct_find.specs.Folders.{IsListed, is_at_or_below}
+use Rattle.ct_find.specs.Folders.{IsHeader, IsListed, IsSource, IsTest, in_include, in_source, in_support, in_test}
 use Rattle.ct_find.specs.Limits.{AreWithin, HaveEntries, ListingPasses, ListingStays, PassesAt, ReadingPasses, ReadingStays, depth_of, most_bytes, most_components, most_entries, most_file_bytes, most_files}
-use Rattle.ct_find.specs.Order.{AreChildren, IsChild, AreStarts, IsDeep, IsDeepStart, IsWhole, Lists, nothing, hidden, alone, with_all_below, deep_starts, first_places, places_after}
-use Rattle.ct_find.specs.Results.{Listed, Passes, Stays}
-use Rattle.ct_find.specs.Sets.{AreSorted}
-use Rattle.ct_find.proofs.Members.{contains_first, contains_more, contains_none, contains_right}
-use Rattle.ct_find.proofs.OrderLemmas.{places_new}
-use Rattle.ct_find.proofs.Ordered.{same_length, sorted_paths-unique}
+use Rattle.ct_find.specs.Order.{AreStarts, AreWalks, IsDeep, IsDeepStart, IsOrder, IsWhole, first_places}
+use Rattle.ct_find.specs.Results.{IsFound, Listed, Passes, Stays}
+use Rattle.ct_find.proofs.Members.{contains_first, contains_more, contains_right}
+use Rattle.ct_find.proofs.OrderLemmas.{member_seen, seen_member}
+pub use Rattle.ct_find.proofs.Ordered.{one_set}
+use Rattle.ct_find.proofs.Ordered.{same_length}
+use Rattle.ct_find.proofs.WalkOrder.{one_walks}
 
 -- ---- sorted sets
-
-pub one_set : (P : List ℕ → Type 0) (ps qs : List (List ℕ)) → AreSorted P ps → AreSorted P qs → ps ≡ qs
-one_set P ps qs f g = sorted_paths-unique ps qs f.sorted g.sorted f.once g.once (λ p m. (g.each p).1 ((f.each p).0 m)) (λ p m. (f.each p).1 ((g.each p).0 m))
 
 one_count : (files : Files) (folder : List ℕ) (xs ys : List Entry) → IsListing files folder xs → IsListing files folder ys → length xs ≡ length ys
 one_count files folder xs ys f g =
@@ -71,43 +71,34 @@ one_whole settings xs ys f g =
     f.whole ∙ ap (λ t. t ++ f.source ++ f.include ++ f.support) test ∙ ap (λ t. g.test ++ t ++ f.include ++ f.support) source
     ∙ ap (λ t. g.test ++ g.source ++ t ++ f.support) include ∙ ap (λ t. g.test ++ g.source ++ g.include ++ t) support ∙ sym g.whole
 
--- ---- two listings from the same starts: one goes on where the other ends
+-- ---- the order of listing
 
-record GoesOn (files : Files) (build : List ℕ) (before after : List (List ℕ)) (left last : List Start) : Type 0 where
-  more : List (List ℕ)
-  lists : Lists files build left more last
-  whole : after ≡ before ++ more
+pub one_order : (settings : ProjectSettings) (files : Files) (xs ys : List (List ℕ)) → IsOrder settings files xs → IsOrder settings files ys → xs ≡ ys
+one_order settings files xs ys f g =
+    let starts : g.starts ≡ f.starts = one_whole settings g.starts f.starts g.whole f.whole in
+    let walks : f.walks ≡ g.walks = one_walks files settings.build_root f.starts f.walks g.walks f.are (subst (λ ss. AreWalks files settings.build_root ss g.walks) starts g.are) in
+    f.once ∙ ap first_places walks ∙ sym g.once
 
-grown : (files : Files) (build folder : List ℕ) (before after : List (List ℕ)) (left last : List Start) → GoesOn files build before after left last
-    → GoesOn files build (folder ∷ before) (folder ∷ after) left last
-grown files build folder before after left last h = record { more = h.more; lists = h.lists; whole = ap (λ fs. folder ∷ fs) h.whole }
+-- two places of a list: they are one, or one of them is before the other
+Places : {A : Type 0} → List A → List A → A → A → Type 0
+Places {A} xs ys x y =
+    ((xs ≡ ys) × (x ≡ y)) ⊎ (((mid : List A) × (ys ≡ xs ++ x ∷ mid)) ⊎ ((mid : List A) × (xs ≡ ys ++ y ∷ mid)))
 
-Ways : Files → List ℕ → List (List ℕ) → List (List ℕ) → List Start → List Start → Type 0
-Ways files build xs ys ls ms = GoesOn files build xs ys ls ms ⊎ GoesOn files build ys xs ms ls
+places_on : {A : Type 0} (z : A) (xs ys : List A) (x y : A) → Places xs ys x y → Places (z ∷ xs) (z ∷ ys) x y
+unfolding Places
+places_on z xs ys x y (inl h) = inl (ap (λ zs. z ∷ zs) h.0, h.1)
+places_on z xs ys x y (inr (inl h)) = inr (inl (h.0, ap (λ zs. z ∷ zs) h.1))
+places_on z xs ys x y (inr (inr h)) = inr (inr (h.0, ap (λ zs. z ∷ zs) h.1))
 
-grown_ways : (files : Files) (build folder : List ℕ) (xs ys : List (List ℕ)) (ls ms : List Start) → Ways files build xs ys ls ms
-    → Ways files build (folder ∷ xs) (folder ∷ ys) ls ms
-unfolding Ways
-grown_ways files build folder xs ys ls ms (inl h) = inl (grown files build folder xs ys ls ms h)
-grown_ways files build folder xs ys ls ms (inr h) = inr (grown files build folder ys xs ms ls h)
-
-ways : (files : Files) (build : List ℕ) (starts : List Start) (xs ys : List (List ℕ)) (ls ms : List Start)
-    → Lists files build starts xs ls → Lists files build starts ys ms → Ways files build xs ys ls ms
-unfolding Ways
-ways files build starts xs ys ls ms nothing g = inl (record { more = ys; lists = g; whole = refl })
-ways files build starts xs ys ls ms f nothing = inr (record { more = xs; lists = f; whole = refl })
-ways files build starts xs ys ls ms (hidden under f) (hidden again g) = ways files build _ xs ys ls ms f g
-ways files build starts xs ys ls ms (hidden under f) (alone out flat g) = absurd (false≢true (sym out ∙ under))
-ways files build starts xs ys ls ms (hidden under f) (with_all_below children out deep are g) = absurd (false≢true (sym out ∙ under))
-ways files build starts xs ys ls ms (alone out flat f) (hidden under g) = absurd (false≢true (sym out ∙ under))
-ways files build starts xs ys ls ms (alone out flat f) (alone again level g) = grown_ways files build _ _ _ ls ms (ways files build _ _ _ ls ms f g)
-ways files build starts xs ys ls ms (alone out flat f) (with_all_below children again deep are g) = absurd (false≢true (sym flat ∙ deep))
-ways files build starts xs ys ls ms (with_all_below children out deep are f) (hidden under g) = absurd (false≢true (sym out ∙ under))
-ways files build starts xs ys ls ms (with_all_below children out deep are f) (alone again flat g) = absurd (false≢true (sym flat ∙ deep))
-ways files build starts xs ys ls ms (with_all_below {start = first} {starts = after} {folders = fs} children out deep are f) (with_all_below {folders = gs} others again low same g) =
-    let below : others ≡ children = one_set (IsChild files first.path) others children same are in
-    let moved : Lists files build (deep_starts children ++ after) gs ms = subst (λ cs. Lists files build (deep_starts cs ++ after) gs ms) below g in
-    grown_ways files build first.path fs gs ls ms (ways files build (deep_starts children ++ after) fs gs ls ms f moved)
+places : {A : Type 0} (xs ys : List A) (x y : A) (rs ss : List A) → xs ++ x ∷ rs ≡ ys ++ y ∷ ss → Places xs ys x y
+unfolding Places
+places [] [] x y rs ss e = inl (refl, cc)
+places [] (w ∷ ys) x y rs ss e = let first : w ≡ x = cc in inr (inl (ys, ap (λ z. z ∷ ys) first))
+places (z ∷ xs) [] x y rs ss e = let first : z ≡ y = cc in inr (inr (xs, ap (λ w. w ∷ xs) first))
+places (z ∷ xs) (w ∷ ys) x y rs ss e =
+    let first : z ≡ w = cc in
+    let others : xs ++ x ∷ rs ≡ ys ++ y ∷ ss = cc in
+    subst (λ k. Places (z ∷ xs) (k ∷ ys) x y) first (places_on z xs ys x y (places xs ys x y rs ss others))
 
 -- ---- counts of entries
 
@@ -128,84 +119,30 @@ one_sum files (x ∷ xs) n m f g =
     let others = one_sum files xs f.1 g.1 f.3 g.3 in
     f.4 ∙ ap (λ l. l + f.1) here ∙ ap (λ o. length g.0 + o) others ∙ sym g.4
 
--- the first places of a list begin with those of its front
-front_places : (xs ys seen : List (List ℕ)) → (rest : List (List ℕ)) × (places_after seen (xs ++ ys) ≡ places_after seen xs ++ rest)
-front_places [] ys seen = (places_after seen ys, refl)
-front_places (x ∷ xs) ys seen = elim (list_any (bytes_eq x) seen) as (λ b. (rest : List (List ℕ))
-    × ((if b then places_after seen (xs ++ ys) else x ∷ places_after (x ∷ seen) (xs ++ ys)) ≡ (if b then places_after seen xs else x ∷ places_after (x ∷ seen) xs) ++ rest)) [
-      | true ↦ front_places xs ys seen
-      | false ↦ let r = front_places xs ys (x ∷ seen) in (r.0, ap (λ zs. x ∷ zs) r.1)
-    ]
-
 -- where all these folders are within the limits, so is each front with the next
 past : (files : Files) (kind : LimitKind) (before rest : List (List ℕ)) (folder : List ℕ) (count all : ℕ)
-    → AreWithin files (before ++ folder ∷ rest) all → (Contains before folder → ⊥) → AreWithin files before count → PassesAt files kind folder count → ⊥
-past files kind before rest folder count all whole fresh front (inl deep) =
+    → AreWithin files (before ++ folder ∷ rest) all → AreWithin files before count → PassesAt files kind folder count → ⊥
+past files kind before rest folder count all whole front (inl deep) =
     let at : Contains (before ++ folder ∷ rest) folder = contains_right before (folder ∷ rest) folder (contains_first folder rest) in
     let P : List ℕ → Type 0 = λ f. depth_of f ≤ most_components in
     let shallow : depth_of folder ≤ most_components = subst P at.2 (whole.shallow at.0 folder at.1) in
     let steep : most_components < depth_of folder = deep.1 in
     omega arith
-past files kind before rest folder count all whole fresh front (inr many) =
-    let whole_places = front_places (before ++ folder ∷ []) rest [] in
-    let joined : before ++ folder ∷ rest ≡ (before ++ folder ∷ []) ++ rest = sym (append_assoc before (folder ∷ []) rest) in
-    let places : first_places (before ++ folder ∷ rest) ≡ (first_places before ++ folder ∷ []) ++ whole_places.0 =
-    ap first_places joined ∙ whole_places.1 ∙ ap (λ zs. zs ++ whole_places.0) (places_new [] before folder (λ h. contains_none folder h) fresh) in
-    let counted : HaveEntries files ((first_places before ++ folder ∷ []) ++ whole_places.0) all = subst (λ fs. HaveEntries files fs all) places whole.counted in
-    let outer = have_parts files (first_places before ++ folder ∷ []) whole_places.0 all counted in
-    let inner = have_parts files (first_places before) (folder ∷ []) outer.0 outer.2 in
-    let same : inner.0 ≡ count = one_sum files (first_places before) inner.0 count inner.2 front.counted in
-    let entries = one_count files folder inner.3.0 many.2.0 inner.3.2 many.2.1 in
-    over outer.0 outer.1 inner.0 inner.1 inner.3.1 (length inner.3.0) (length many.2.0) count all whole.few outer.4 inner.4 inner.3.3 inner.3.4 same entries many.2.2
+past files kind before rest folder count all whole front (inr many) =
+    let split = have_parts files before (folder ∷ rest) all whole.counted in
+    let same : split.0 ≡ count = one_sum files before split.0 count split.2 front.counted in
+    let entries = one_count files folder split.3.0 many.2.0 split.3.2 many.2.1 in
+    over split.0 split.1 split.3.1 (length split.3.0) (length many.2.0) count all whole.few split.4 split.3.4 same entries many.2.2
   where
-    over : (a b c d o l k n all : ℕ) → all ≤ most_entries → all ≡ a + b → a ≡ c + d → o ≡ 0 → d ≡ l + o → c ≡ n → l ≡ k → most_entries < n + k → ⊥
-    over a b c d o l k n all few p q r s t u many = omega arith
+    over : (a b o l k n all : ℕ) → all ≤ most_entries → all ≡ a + b → b ≡ l + o → a ≡ n → l ≡ k → most_entries < n + k → ⊥
+    over a b o l k n all few p q s t many = omega arith
 
 -- ---- the limits of listing
 
--- what stands where a listing goes on behind this start: nothing, or the start's folder first
-NextFirst : List Start → List (List ℕ) → List Start → Start → List Start → Type 0
-NextFirst left more last start others = ((more ≡ []) × (last ≡ left)) ⊎ ((rest : List (List ℕ)) × (more ≡ start.path ∷ rest))
-
-next_first : (files : Files) (build : List ℕ) (left last : List Start) (more : List (List ℕ)) (start : Start) (others : List Start)
-    → left ≡ start ∷ others → is_at_or_below build start.path ≡ false → Lists files build left more last → NextFirst left more last start others
-unfolding NextFirst
-next_first files build left last more start others is out nothing = inl (refl, refl)
-next_first files build left last more start others is out (hidden {start = first} {starts = after} under lists) =
-    let same : first ≡ start = cc in absurd (false≢true (sym out ∙ ap (λ s. is_at_or_below build s.path) (sym same) ∙ under))
-next_first files build left last more start others is out (alone {start = first} {folders = rest} outside flat lists) =
-    let same : first ≡ start = cc in inr (rest, ap (λ s. s.path ∷ rest) same)
-next_first files build left last more start others is out (with_all_below {start = first} {folders = rest} children outside deep are lists) =
-    let same : first ≡ start = cc in inr (rest, ap (λ s. s.path ∷ rest) same)
-
--- a listing goes on behind the folder that passes a limit: only if it is left
-goes_past : (settings : ProjectSettings) (files : Files) (kind : LimitKind) (folder : List ℕ) (p : ListingPasses settings files kind folder)
-    → (after more : List (List ℕ)) (last : List Start) (all : ℕ) → Lists files settings.build_root (p.start ∷ p.left) more last → after ≡ p.before ++ more
-    → AreWithin files after all → (more ≡ []) × (last ≡ p.start ∷ p.left)
-unfolding NextFirst
-goes_past settings files kind folder p after more last all lists whole within =
-    ⊎_elim
-    (λ h. h)
-    (λ h. let split : after ≡ p.before ++ folder ∷ h.0 = whole ∙ ap (λ fs. p.before ++ fs) (h.1 ∙ ap (λ f. f ∷ h.0) (sym p.is)) in
-    absurd (past files kind p.before h.0 folder p.count all (subst (λ fs. AreWithin files fs all) split within) p.fresh p.within p.passes))
-    (next_first files settings.build_root (p.start ∷ p.left) last more p.start p.left refl (ap (is_at_or_below settings.build_root) (sym p.is) ∙ p.outside) lists)
-
-none_left : (files : Files) (build : List ℕ) (left last : List Start) (more : List (List ℕ)) → left ≡ [] → Lists files build left more last → last ≡ []
-none_left files build left last more is nothing = is
-none_left files build left last more is (hidden under lists) = absurd (cc is)
-none_left files build left last more is (alone out flat lists) = absurd (cc is)
-none_left files build left last more is (with_all_below children out deep are lists) = absurd (cc is)
-
 listing_apart : (settings : ProjectSettings) (files : Files) (kind : LimitKind) (folder : List ℕ) → ListingStays settings files → ListingPasses settings files kind folder → ⊥
-unfolding Ways
 listing_apart settings files kind folder s p =
-    let starts = one_whole settings s.starts p.starts s.whole p.whole in
-    let lists : Lists files settings.build_root p.starts s.folders [] = subst (λ ss. Lists files settings.build_root ss s.folders []) starts s.lists in
-    ⊎_elim
-    (λ h. let end = goes_past settings files kind folder p s.folders h.more [] s.count h.lists h.whole s.within in
-    let e : [] ≡ p.start ∷ p.left = end.1 in absurd (cc e))
-    (λ h. let e : p.start ∷ p.left ≡ [] = none_left files settings.build_root [] (p.start ∷ p.left) h.more refl h.lists in absurd (cc e))
-    (ways files settings.build_root p.starts p.before s.folders (p.start ∷ p.left) [] p.lists lists)
+    let same : s.folders ≡ p.before ++ folder ∷ p.rest = one_order settings files s.folders (p.before ++ folder ∷ p.rest) s.order p.order in
+    past files kind p.before p.rest folder p.count s.count (subst (λ fs. AreWithin files fs s.count) same s.within) p.within p.passes
 
 same_kind : (files : Files) (kind other : LimitKind) (folder : List ℕ) (count : ℕ) → PassesAt files kind folder count → PassesAt files other folder count → kind ≡ other
 same_kind files kind other folder count (inl f) (inl g) = f.0 ∙ sym g.0
@@ -219,34 +156,22 @@ same_kind files kind other folder count (inr f) (inl g) = absurd (between (depth
     between d over under = omega arith
 same_kind files kind other folder count (inr f) (inr g) = f.0 ∙ sym g.0
 
--- the second goes on where the first ends, and so ends there too
-one_listing_on : (settings : ProjectSettings) (files : Files) (kind other : LimitKind) (folder place : List ℕ)
-    (p : ListingPasses settings files kind folder) (q : ListingPasses settings files other place)
-    → GoesOn files settings.build_root p.before q.before (p.start ∷ p.left) (q.start ∷ q.left) → (kind ≡ other) × (folder ≡ place)
-one_listing_on settings files kind other folder place p q h =
-    let end = goes_past settings files kind folder p q.before h.more (q.start ∷ q.left) q.count h.lists h.whole q.within in
-    let starts : q.start ∷ q.left ≡ p.start ∷ p.left = end.1 in
-    let start : q.start ≡ p.start = cc in
-    let same : folder ≡ place = p.is ∙ ap (λ s. s.path) (sym start) ∙ sym q.is in
-    let fronts : q.before ≡ p.before = h.whole ∙ ap (λ m. p.before ++ m) end.0 ∙ append-nil p.before in
-    let counts : q.count ≡ p.count =
-    one_sum files (first_places p.before) q.count p.count (subst (λ fs. HaveEntries files (first_places fs) q.count) fronts q.within.counted) p.within.counted in (
-      same_kind files kind other folder p.count p.passes
-          (subst (λ n. PassesAt files other folder n) counts (subst (λ f. PassesAt files other f q.count) (sym same) q.passes)),
-      same,
-    )
-
 one_listing : (settings : ProjectSettings) (files : Files) (kind other : LimitKind) (folder place : List ℕ)
     → ListingPasses settings files kind folder → ListingPasses settings files other place → (kind ≡ other) × (folder ≡ place)
-unfolding Ways
+unfolding Places
 one_listing settings files kind other folder place p q =
-    let starts = one_whole settings q.starts p.starts q.whole p.whole in
-    let lists : Lists files settings.build_root p.starts q.before (q.start ∷ q.left) =
-    subst (λ ss. Lists files settings.build_root ss q.before (q.start ∷ q.left)) starts q.lists in
     ⊎_elim
-    (λ h. one_listing_on settings files kind other folder place p q h)
-    (λ h. let r = one_listing_on settings files other kind place folder q p h in (sym r.0, sym r.1))
-    (ways files settings.build_root p.starts p.before q.before (p.start ∷ p.left) (q.start ∷ q.left) p.lists lists)
+    (λ h.
+    let counts : q.count ≡ p.count = one_sum files p.before q.count p.count (subst (λ fs. HaveEntries files fs q.count) (sym h.0) q.within.counted) p.within.counted in (
+      same_kind files kind other folder p.count p.passes
+          (subst (λ n. PassesAt files other folder n) counts (subst (λ f. PassesAt files other f q.count) (sym h.1) q.passes)),
+      h.1,
+    ))
+    (λ others. ⊎_elim
+    (λ h. absurd (past files kind p.before h.0 folder p.count q.count (subst (λ fs. AreWithin files fs q.count) h.1 q.within) p.within p.passes))
+    (λ h. absurd (past files other q.before h.0 place q.count p.count (subst (λ fs. AreWithin files fs p.count) h.1 p.within) q.within q.passes))
+    others)
+    (places p.before q.before folder place p.rest q.rest (one_order settings files (p.before ++ folder ∷ p.rest) (q.before ++ place ∷ q.rest) p.order q.order))
 
 -- ---- the limits of reading
 
@@ -329,3 +254,54 @@ one_limit settings files kind other path place (inr (listed, inr p)) (inr (again
     absurd (too_many listed.paths most_files place (subst (λ ps. slice_get ps most_files ≡ Some place) (one_list settings files again listed) q.1) p.0)
 one_limit settings files kind other path place (inr (listed, inr p)) (inr (again, inr q)) =
     one_reading files again.paths 0 kind other path place (subst (λ ps. ReadingPasses files ps 0 kind path) (one_list settings files listed again) p.1) q.1
+
+-- ---- what is found
+
+module _ (settings : ProjectSettings) (files : Files) (a b : Found) (f : IsFound settings files a) (g : IsFound settings files b) where
+  one_tests : a.tests ≡ b.tests
+  one_tests = one_set (IsTest settings files) a.tests b.tests f.tests g.tests
+
+  one_sources : a.sources ≡ b.sources
+  one_sources = one_set (IsSource settings files) a.sources b.sources f.sources g.sources
+
+  one_headers : a.headers ≡ b.headers
+  one_headers = one_set (IsHeader settings files) a.headers b.headers f.headers g.headers
+
+  one_folders : a.folders ≡ b.folders
+  one_folders =
+      let include = one_set (in_include settings files) f.folders.include g.folders.include f.folders.include_folders g.folders.include_folders in
+      let source = one_set (in_source settings files) f.folders.source g.folders.source f.folders.source_folders g.folders.source_folders in
+      let test = one_set (in_test settings files) f.folders.test g.folders.test f.folders.test_folders g.folders.test_folders in
+      let support = one_set (in_support settings files) f.folders.support g.folders.support f.folders.support_folders g.folders.support_folders in
+      f.folders.whole ∙ ap (λ t. t ++ f.folders.source ++ f.folders.test ++ f.folders.support) include ∙ ap (λ t. g.folders.include ++ t ++ f.folders.test ++ f.folders.support) source
+      ∙ ap (λ t. g.folders.include ++ g.folders.source ++ t ++ f.folders.support) test ∙ ap (λ t. g.folders.include ++ g.folders.source ++ g.folders.test ++ t) support ∙ sym g.folders.whole
+
+  -- whether a file is listed is seen from the lists
+  is_listed : (path : List ℕ) → IsListed settings files path ⊎ (IsListed settings files path → ⊥)
+  is_listed path =
+      elim (list_any (bytes_eq path) a.tests) as (λ t. list_any (bytes_eq path) a.tests ≡ t → IsListed settings files path ⊎ (IsListed settings files path → ⊥)) [
+        | true ↦ λ d. inl (inl ((f.tests.each path).0 (seen_member path a.tests d)))
+        | false ↦ λ d. elim (list_any (bytes_eq path) a.sources) as (λ t. list_any (bytes_eq path) a.sources ≡ t → IsListed settings files path ⊎ (IsListed settings files path → ⊥)) [
+          | true ↦ λ e. inl (inr (inl ((f.sources.each path).0 (seen_member path a.sources e))))
+          | false ↦ λ e. elim (list_any (bytes_eq path) a.headers) as (λ t. list_any (bytes_eq path) a.headers ≡ t → IsListed settings files path ⊎ (IsListed settings files path → ⊥)) [
+            | true ↦ λ i. inl (inr (inr ((f.headers.each path).0 (seen_member path a.headers i))))
+            | false ↦ λ i. inr (λ h. elim h [
+              | inl k ↦ false≢true (sym d ∙ member_seen path a.tests ((f.tests.each path).1 k))
+              | inr others ↦ elim others [
+                | inl k ↦ false≢true (sym e ∙ member_seen path a.sources ((f.sources.each path).1 k))
+                | inr k ↦ false≢true (sym i ∙ member_seen path a.headers ((f.headers.each path).1 k))
+              ]
+            ])
+          ] refl
+        ] refl
+      ] refl
+
+  one_texts : a.texts ≡ b.texts
+  one_texts = same_map nat_list_cmp_total (slice_cmp-IsAntisymmetric nat_cmp-IsAntisymmetric) a.texts b.texts (λ path.
+      ⊎_elim
+      (λ h. f.texts.listed path h ∙ sym (g.texts.listed path h))
+      (λ n. f.texts.others path n ∙ sym (g.texts.others path n))
+      (is_listed path))
+
+  pub one_found : a ≡ b
+  one_found = λ i. record { tests = one_tests i; sources = one_sources i; headers = one_headers i; folders = one_folders i; texts = one_texts i }

@@ -1,5 +1,5 @@
 -- The order of listing, a start at a time.
-use Rattle.std.proofs.Common.{◌≡◌, ℕ, ◌⊎◌, inl, inr, List, [], ◌∷◌, ◌++◌, Bool, true, false, refl, sym, ap, subst, ◌∙◌}
+use Rattle.std.proofs.Common.{◌≡◌, ℕ, ◌⊎◌, inl, inr, List, [], ◌∷◌, ◌++◌, Bool, true, false, refl, sym, ap, subst, ◌∙◌, append_assoc}
 use Rattle.std.specs.Prelude.{if◌then◌else◌, ◌||◌}
 use Rattle.std.specs.List.{Contains, list_any}
 use Rattle.std.specs.Str.{bytes_eq}
@@ -7,8 +7,9 @@ use Rattle.std.proofs.lemmas.Bool.{false≢true}
 use Rattle.std.proofs.lemmas.Slice.Eq.{bytes_eq-Decides}
 use Rattle.ct_outside.specs.Files.{Files}
 use Rattle.ct_find.specs.declared.starts.Start.{Start}
-use Rattle.ct_find.specs.Order.{Lists, nothing, hidden, alone, with_all_below, places_after}
+use Rattle.ct_find.specs.Order.{first_places, places_after}
 use Rattle.ct_find.proofs.Members.{contains_cases, contains_first, contains_more, contains_none}
+use Rattle.ct_find.specs.Rows.{Lists, alone, hidden, nothing, with_all_below}
 
 -- what is listed for some starts and then for those that are left
 pub lists_then : (files : Files) (build : List ℕ) (starts mid left : List Start) (front more : List (List ℕ)) → Lists files build starts front mid → Lists files build mid more left
@@ -101,3 +102,21 @@ places_have seen (x ∷ xs) p h n =
             (λ k. elim (contains_cases x seen p k) [ inl same ↦ other same | inr m ↦ n m ]))
       ] refl
     ] refl
+
+-- the first places of a list begin with those of its front
+front_places : (xs ys seen : List (List ℕ)) → (rest : List (List ℕ)) × (places_after seen (xs ++ ys) ≡ places_after seen xs ++ rest)
+front_places [] ys seen = (places_after seen ys, refl)
+front_places (x ∷ xs) ys seen = elim (list_any (bytes_eq x) seen) as (λ b. (rest : List (List ℕ))
+    × ((if b then places_after seen (xs ++ ys) else x ∷ places_after (x ∷ seen) (xs ++ ys)) ≡ (if b then places_after seen xs else x ∷ places_after (x ∷ seen) xs) ++ rest)) [
+      | true ↦ front_places xs ys seen
+      | false ↦ let r = front_places xs ys (x ∷ seen) in (r.0, ap (λ zs. x ∷ zs) r.1)
+    ]
+
+-- a folder that is new stands behind the first places of what comes before it
+pub places_split : (before : List (List ℕ)) (folder : List ℕ) (rest : List (List ℕ)) → (Contains before folder → ⊥)
+    → (behind : List (List ℕ)) × (first_places before ++ folder ∷ behind ≡ first_places (before ++ folder ∷ rest))
+places_split before folder rest fresh =
+    let r = front_places (before ++ folder ∷ []) rest [] in
+    let whole : first_places (before ++ folder ∷ rest) ≡ first_places (before ++ folder ∷ []) ++ r.0 = ap first_places (sym (append_assoc before (folder ∷ []) rest)) ∙ r.1 in
+    let next : first_places (before ++ folder ∷ []) ≡ first_places before ++ folder ∷ [] = places_new [] before folder (λ h. contains_none folder h) fresh in
+    (r.0, sym (whole ∙ ap (λ zs. zs ++ r.0) next ∙ append_assoc (first_places before) (folder ∷ []) r.0))

@@ -11,6 +11,7 @@ use Rattle.std.specs.List.Sorted.{IsSorted}
 use Rattle.std.proofs.lemmas.Bool.{false≢true}
 use Rattle.std.proofs.lemmas.Cmp.{nat_list_cmp_total, upto}
 use Rattle.ct_outside.specs.Files.{EachOnce}
+use Rattle.ct_find.specs.Sets.{AreSorted}
 use Rattle.ct_find.proofs.Members.{contains_first, contains_more, contains_cases, contains_none}
 
 -- a list without one of its members
@@ -105,6 +106,9 @@ module _ {A : Type 0} (R : A → A → Ordering) (total : IsTotalOrder R) (same 
       (in_tail x y xs ys e once there) (in_tail y x ys xs (sym e) other back) in
       cc
 
-pub sorted_paths-unique : (xs ys : List (List ℕ)) → IsSorted (slice_cmp nat_cmp) xs → IsSorted (slice_cmp nat_cmp) ys → EachOnce xs → EachOnce ys
+sorted_paths-unique : (xs ys : List (List ℕ)) → IsSorted (slice_cmp nat_cmp) xs → IsSorted (slice_cmp nat_cmp) ys → EachOnce xs → EachOnce ys
     → ((z : List ℕ) → Contains xs z → Contains ys z) → ((z : List ℕ) → Contains ys z → Contains xs z) → xs ≡ ys
 sorted_paths-unique = sorted-unique (slice_cmp nat_cmp) nat_list_cmp_total (slice_cmp-IsAntisymmetric nat_cmp-IsAntisymmetric)
+
+pub one_set : (P : List ℕ → Type 0) (ps qs : List (List ℕ)) → AreSorted P ps → AreSorted P qs → ps ≡ qs
+one_set P ps qs f g = sorted_paths-unique ps qs f.sorted g.sorted f.once g.once (λ p m. (g.each p).1 ((f.each p).0 m)) (λ p m. (f.each p).1 ((g.each p).0 m))

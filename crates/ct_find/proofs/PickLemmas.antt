@@ -9,7 +9,7 @@ use Rattle.ct_settings.specs.declared.record.Pattern.{Pattern}
 use Rattle.ct_settings.specs.declared.record.ProjectSettings.{ProjectSettings}
 use Rattle.ct_find.specs.declared.picking.Groups.{Groups}
 use Rattle.ct_find.specs.declared.picking.Kind.{Kind}
-use Rattle.ct_find.specs.declared.walking.Row.{Row}
+use Rattle.ct_find.specs.declared.rows.Row.{Row}
 use Rattle.ct_find.specs.Order.{inside}
 use Rattle.ct_find.specs.Rows.{AreGroups, HaveGroups, IsMatched, IsMatchedAt, IsMatchedRow, IsPicked, IsPickedBy, IsPickedFrom, IsPickedIn, kind_of, texts_of}
 use Rattle.ct_find.specs.Sets.{AreSorted}

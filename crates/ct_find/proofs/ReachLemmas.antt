@@ -13,9 +13,10 @@ use Rattle.ct_outside.specs.Files.{Files, IsFolder, entry_at, is_slash, rest_bel
 use Rattle.ct_outside.specs.Paths.{components_of, path_of}
 use Rattle.ct_find.specs.declared.starts.Start.{Start}
 use Rattle.ct_find.specs.Folders.{IsPath, is_at_or_below}
-use Rattle.ct_find.specs.Order.{AreChildren, IsChild, Lists, nothing, hidden, alone, with_all_below, deep_starts, inside}
+use Rattle.ct_find.specs.Order.{AreChildren, IsChild, deep_starts, inside}
 use Rattle.ct_find.proofs.Members.{contains_append, contains_cases, contains_first, contains_left, contains_map, contains_more, contains_none, contains_right, map_contains}
 use Rattle.ct_find.proofs.NameLemmas.{IsName, child_name, component_name, components_inside, inside_is_path, inside_names, inside_some}
+use Rattle.ct_find.specs.Rows.{Lists, alone, hidden, nothing, with_all_below}
 
 abbrev pub ArePaths : List Start → Type 0
 ArePaths starts = (s : Start) → Contains starts s → IsPath s.path
@@ -107,7 +108,7 @@ name_before (b ∷ bs) tail plain =
     let r = or_false (is_slash b) (list_any is_slash bs) plain in
     front_step b bs (bs ++ 47 ∷ tail) (is_slash b) r.0 (name_before bs tail r.1)
 
-or_right : (x y : Bool) → y ≡ true → (x || y) ≡ true
+pub or_right : (x y : Bool) → y ≡ true → (x || y) ≡ true
 or_right true y h = refl
 or_right false y h = h
 
@@ -154,7 +155,7 @@ child_on_way files front n more g f is names own e folder =
     some_below None x h = absurd (cc)
     some_below (Some r) x h = (r, refl)
 
-or_true : (a b : Bool) → (a || b) ≡ true → (a ≡ true) ⊎ (b ≡ true)
+pub or_true : (a b : Bool) → (a || b) ≡ true → (a ≡ true) ⊎ (b ≡ true)
 or_true true b e = inl refl
 or_true false b e = inr e
 

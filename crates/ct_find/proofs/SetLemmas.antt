@@ -76,13 +76,13 @@ paths_cmp = slice_cmp nat_cmp
 same_paths : IsAntisymmetric (slice_cmp nat_cmp)
 same_paths = slice_cmp-IsAntisymmetric nat_cmp-IsAntisymmetric
 
-sorted_cons : (x y : List ℕ) (ys : List (List ℕ)) → is_lt (slice_cmp nat_cmp y x) ≡ false → IsSorted (slice_cmp nat_cmp) (y ∷ ys) → IsSorted (slice_cmp nat_cmp) (x ∷ y ∷ ys)
+pub sorted_cons : (x y : List ℕ) (ys : List (List ℕ)) → is_lt (slice_cmp nat_cmp y x) ≡ false → IsSorted (slice_cmp nat_cmp) (y ∷ ys) → IsSorted (slice_cmp nat_cmp) (x ∷ y ∷ ys)
 sorted_cons x y ys le h zero d low within = le
 sorted_cons x y ys le h (suc k) d low within =
     let next : suc k + 1 ≡ suc (k + 1) = omega arith in
     subst (λ i. is_lt (slice_cmp nat_cmp (get_or (x ∷ y ∷ ys) i d) (get_or (y ∷ ys) k d)) ≡ false) (sym next) (h k d (omega arith) (omega arith))
 
-sorted_one : (x : List ℕ) → IsSorted (slice_cmp nat_cmp) (x ∷ [])
+pub sorted_one : (x : List ℕ) → IsSorted (slice_cmp nat_cmp) (x ∷ [])
 sorted_one x k d low within = absurd (omega arith)
 
 -- what is left begins as the list does

@@ -13,13 +13,14 @@ use Rattle.ct_outside.specs.declared.tree.Found.TheVariants.{There, Absent, TooL
 use Rattle.ct_find.specs.declared.files.FindFault.{FindFault}
 use Rattle.ct_find.specs.declared.files.FindFault.TheVariants.{Read, Limit}
 use Rattle.ct_find.specs.declared.walking.Listing.{Listing}
-use Rattle.ct_find.specs.declared.walking.Row.{Row}
+use Rattle.ct_find.specs.declared.rows.Row.{Row}
 use Rattle.ct_find.specs.Order.{inside}
-use Rattle.ct_find.specs.Rows.{IsFresh, IsChildOf, IsRowChild, ListsNext, VisitTells, is_child, texts_of}
+use Rattle.ct_find.specs.Rows.{IsChildOf, IsRowChild, ListsNext, VisitTells, is_child, texts_of}
 use Rattle.ct_find.specs.Sets.{AreSorted}
 use Rattle.ct_find.proofs.Members.{all_taken, contains_none, contains_taken}
 use Rattle.ct_find.proofs.SetLemmas.{sorted_as}
 use Rattle.ct_find.proofs.StartLemmas.{collected, collected_none, some_taken, taken_some}
+use Rattle.ct_find.specs.Places.{IsFresh}
 
 pub told_at : {A : Type 0} (o : Option A) (P : A → Type 0) (x : A) → IfSome o P → o ≡ Some x → P x
 told_at {A = A} o P x h e = let Q : Option A → Type 0 = λ p. IfSome p P in subst Q e h
@@ -42,21 +43,6 @@ last_row (x ∷ rows) a b e = let others : rows ++ a ∷ [] ≡ rows ++ b ∷ []
 pub same_row : (files : Files) (folder : List ℕ) (rows new : List Row) (a b : Row) → new ≡ rows ++ a ∷ [] → new ≡ rows ++ b ∷ [] → IsListing files folder a.entries → IsListing files folder b.entries
 same_row files folder rows new a b p q listing = subst (λ (r : Row). IsListing files folder r.entries) (last_row rows a b (sym p ∙ q)) listing
 
-pub fresh_more : (rows : List Row) (i : ℕ) (row : Row) (folder : List ℕ) → i < length rows → row ≡ get_or rows i row → IsFresh (take i rows) folder → (row.folder ≡ folder → ⊥)
-    → IsFresh (take (i + 1) rows) folder
-fresh_more rows i row folder within read fresh other r m e = elim (contains_taken rows i row r within read m) [
-  | inl n ↦ fresh r n e
-  | inr same ↦ other (ap (λ (z : Row). z.folder) same ∙ e)
-]
-
-pub fresh_all : (rows : List Row) (i : ℕ) (folder : List ℕ) → i ≡ length rows → IsFresh (take i rows) folder → IsFresh rows folder
-fresh_all rows i folder all fresh = subst (λ (rs : List Row). IsFresh rs folder) (all_taken rows i all) fresh
-
-pub got : {A : Type 0} (xs : List A) (i : ℕ) (x : A) → i < length xs → x ≡ get_or xs i x → slice_get xs i ≡ Some x
-got [] i x within read = absurd (omega arith)
-got (y ∷ xs) zero x within read = ap Some (sym read)
-got (y ∷ xs) (suc i) x within read = got xs i x (omega arith) read
-
 pub got_in : {A : Type 0} (xs : List A) (i : ℕ) (x : A) → slice_get xs i ≡ Some x → (i < length xs) × ((d : A) → get_or xs i d ≡ x)
 got_in [] i x e = absurd (cc)
 got_in (y ∷ xs) zero x e = (omega arith, λ d. cc)
@@ -73,7 +59,7 @@ got_last xs new x i e l = subst (λ zs. slice_get zs i ≡ Some x) (sym e) (subs
     at_end (y ∷ xs) x = at_end xs x
 
 -- a limit that is passed at a folder which was not listed before
-pub passes_fresh : (B : Type 0) (files : Files) (folder : List ℕ) (old new : Listing) (fail : Fail FindFault) → IsFresh old.rows.items folder
+pub passes_fresh : (B : Type 0) (files : Files) (folder : List ℕ) (old new : Listing) (fail : Fail FindFault) → IsFresh old.rows folder
     → ListsNext files folder old new (Err fail) → VisitTells {A = B} files folder old new (Err fail)
 passes_fresh B files folder old new OutOfMemory fresh h = tt
 passes_fresh B files folder old new (Fault Read) fresh h = tt

@@ -16,17 +16,18 @@ use Rattle.ct_find.specs.declared.files.FindFault.{FindFault}
 use Rattle.ct_find.specs.declared.files.FindFault.TheVariants.{Read, Limit}
 use Rattle.ct_find.specs.declared.starts.Start.{Start}
 use Rattle.ct_find.specs.declared.walking.Listing.{Listing}
-use Rattle.ct_find.specs.declared.walking.Row.{Row}
+use Rattle.ct_find.specs.declared.rows.Row.{Row}
 use Rattle.ct_find.specs.Folders.{is_at_or_below}
 use Rattle.ct_find.specs.Limits.{PassesAt, depth_of, most_components}
-use Rattle.ct_find.specs.Order.{AreChildren, IsChild, Lists, nothing, hidden, alone, with_all_below, deep_starts, first_places}
-use Rattle.ct_find.specs.Rows.{AddsRow, AreListings, IsChildOf, IsFresh, IsListedRow, IsRowChild, IsWalked, VisitTells, WalkTells}
+use Rattle.ct_find.specs.Order.{AreChildren, IsChild, deep_starts, first_places}
+use Rattle.ct_find.specs.Rows.{AddsRow, AreListings, IsChildOf, IsListedRow, IsRowChild, IsWalked, Lists, VisitTells, WalkTells, alone, hidden, nothing, with_all_below}
 use Rattle.ct_find.specs.Sets.{AreSorted}
 use Rattle.ct_find.proofs.Members.{contains_append, contains_cases, contains_map, contains_none, map_contains}
 use Rattle.ct_find.proofs.OrderLemmas.{lists_then, places_from, places_have, places_new, places_old}
 use Rattle.ct_find.proofs.SetLemmas.{sorted_as}
+use Rattle.ct_find.specs.Places.{IsFresh}
 
-both_true : (a b : Bool) → (a && b) ≡ true → (a ≡ true) × (b ≡ true)
+pub both_true : (a b : Bool) → (a && b) ≡ true → (a ≡ true) × (b ≡ true)
 both_true true b e = (refl, e)
 both_true false b e = absurd (false≢true e)
 
@@ -42,7 +43,7 @@ length_some : (name : List ℕ) → (name ≡ [] → ⊥) → (length name == 0)
 length_some [] n = absurd (n refl)
 length_some (b ∷ bs) n = grind (arith, nat_tests)
 
-same_entry : (x y : Entry) → x.name ≡ y.name → x.folder ≡ y.folder → x ≡ y
+pub same_entry : (x y : Entry) → x.name ≡ y.name → x.folder ≡ y.folder → x ≡ y
 same_entry x y p q = λ i. record { name = p i; folder = q i }
 
 front_at : (b : ℕ) (bs : List ℕ) (t : Bool) → is_slash b ≡ t → list_any is_slash (before_first is_slash bs) ≡ false
@@ -143,14 +144,14 @@ more_listings files rows new row e all own r m = elim (contains_append rows (row
 ]
 
 pub walked_visit : (files : Files) (build : List ℕ) (starts left left' : List Start) (start : Start) (row : Row) (old new : Listing)
-    → IsWalked files build starts (start ∷ left) old.rows.items old.entries → is_at_or_below build start.path ≡ false → row.folder ≡ start.path
+    → IsWalked files build starts (start ∷ left) old.rows old.entries → is_at_or_below build start.path ≡ false → row.folder ≡ start.path
     → IsListedRow start.path row old new → ((r : Row) → AddsRow start.path old new r → IsListing files start.path r.entries)
     → (start.deep ≡ true → (children : List (List ℕ)) × AreSorted (IsRowChild row) children × (left' ≡ deep_starts children ++ left)) → (start.deep ≡ false → left' ≡ left)
-    → IsWalked files build starts left' new.rows.items new.entries
+    → IsWalked files build starts left' new.rows new.entries
 walked_visit files build starts left left' start row old new w out is (inl (member, same)) tells all one =
     let listing : IsListing files row.folder row.entries = w.listings row member in
-    let there : Contains w.folders start.path = subst (λ (f : List ℕ). Contains w.folders f) is (row_in old.rows.items row w.folders w.rows_are member) in
-    subst (λ (l : Listing). IsWalked files build starts left' l.rows.items l.entries) (sym same) (record {
+    let there : Contains w.folders start.path = subst (λ (f : List ℕ). Contains w.folders f) is (row_in old.rows row w.folders w.rows_are member) in
+    subst (λ (l : Listing). IsWalked files build starts left' l.rows l.entries) (sym same) (record {
       folders = w.folders ++ start.path ∷ [];
       lists = next_lists files build starts left left' start w.folders w.lists out start.deep refl
           (λ e. let r = all e in (r.0, subst (λ (f : List ℕ). AreChildren files f r.0) is (are_children files row r.0 listing r.1), r.2)) one;
@@ -162,17 +163,17 @@ walked_visit files build starts left left' start row old new w out is (inl (memb
     })
 walked_visit files build starts left left' start row old new w out is (inr (fresh, adds)) tells all one =
     let listing : IsListing files row.folder row.entries = subst (λ (f : List ℕ). IsListing files f row.entries) (sym is) (tells row adds) in
-    let absent : Contains w.folders start.path → ⊥ = fresh_out old.rows.items start.path w.folders w.rows_are fresh in record {
+    let absent : Contains w.folders start.path → ⊥ = fresh_out old.rows start.path w.folders w.rows_are fresh in record {
       folders = w.folders ++ start.path ∷ [];
       lists = next_lists files build starts left left' start w.folders w.lists out start.deep refl
           (λ e. let r = all e in (r.0, subst (λ (f : List ℕ). AreChildren files f r.0) is (are_children files row r.0 listing r.1), r.2)) one;
-      rows_are = ap (map (λ (r : Row). r.folder)) adds.0 ∙ map_folders old.rows.items row ∙ ap (λ (fs : List (List ℕ)). fs ++ row.folder ∷ []) w.rows_are
+      rows_are = ap (map (λ (r : Row). r.folder)) adds.0 ∙ map_folders old.rows row ∙ ap (λ (fs : List (List ℕ)). fs ++ row.folder ∷ []) w.rows_are
           ∙ ap (λ (f : List ℕ). first_places w.folders ++ f ∷ []) is ∙ sym (places_new [] w.folders start.path (contains_none start.path) absent);
-      listings = more_listings files old.rows.items new.rows.items row adds.0 w.listings listing;
+      listings = more_listings files old.rows new.rows row adds.0 w.listings listing;
       shallow = subst (λ (rs : List Row). All (λ r. depth_of r.folder ≤ most_components) rs) (sym adds.0)
-          (All-push (λ (r : Row). depth_of r.folder ≤ most_components) old.rows.items row w.shallow (subst (λ (f : List ℕ). depth_of f ≤ most_components) (sym is) adds.2));
+          (All-push (λ (r : Row). depth_of r.folder ≤ most_components) old.rows row w.shallow (subst (λ (f : List ℕ). depth_of f ≤ most_components) (sym is) adds.2));
       counted = adds.3 ∙ ap (λ n. n + length row.entries) w.counted
-          ∙ sym (ap (sum_by (λ (r : Row). length r.entries)) adds.0 ∙ sum_by-append (λ (r : Row). length r.entries) old.rows.items (row ∷ []) ∙ ap (λ n. sum_by (λ (r : Row). length r.entries) old.rows.items + n) (one_sum row));
+          ∙ sym (ap (sum_by (λ (r : Row). length r.entries)) adds.0 ∙ sum_by-append (λ (r : Row). length r.entries) old.rows (row ∷ []) ∙ ap (λ n. sum_by (λ (r : Row). length r.entries) old.rows + n) (one_sum row));
       few = adds.4;
     }
   where
@@ -188,18 +189,18 @@ pub next_last : (items rest : List Start) (start : Start) → items ≡ rest ++ 
 next_last items rest start e = ap reverse e ∙ reverse-append rest (start ∷ [])
 
 pub walk_passes : (files : Files) (build : List ℕ) (starts left : List Start) (start : Start) (old new : Listing) (fail : Fail FindFault)
-    → IsWalked files build starts (start ∷ left) old.rows.items old.entries → is_at_or_below build start.path ≡ false
+    → IsWalked files build starts (start ∷ left) old.rows old.entries → is_at_or_below build start.path ≡ false
     → VisitTells {A = Unit {0}} files start.path old new (Err fail) → WalkTells files build starts (Err fail)
 walk_passes files build starts left start old new OutOfMemory w out tells = tt
 walk_passes files build starts left start old new (Fault Read) w out tells = tt
 walk_passes files build starts left start old new (Fault (Limit kind path)) w out tells = record {
   start = start;
   left = left;
-  rows = old.rows.items;
+  rows = old.rows;
   count = old.entries;
   walked = w;
   is = tells.0;
   outside = subst (λ (f : List ℕ). is_at_or_below build f ≡ false) (sym tells.0) out;
-  fresh = subst (λ (f : List ℕ). IsFresh old.rows.items f) (sym tells.0) tells.1;
+  fresh = subst (λ (f : List ℕ). IsFresh old.rows f) (sym tells.0) tells.1;
   passes = subst (λ (f : List ℕ). PassesAt files kind f old.entries) (sym tells.0) tells.2;
 }

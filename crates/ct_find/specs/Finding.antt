@@ -36,8 +36,8 @@ pub record IsListed (settings : ProjectSettings) (files : Files) (lists : FileLi
   pub starts : List Start
   pub whole : IsWhole settings starts
   pub listing : Listing
-  pub walked : IsWalked files settings.build_root starts [] listing.rows.items listing.entries
-  pub are : AreLists settings listing.rows.items lists
+  pub walked : IsWalked files settings.build_root starts [] listing.rows listing.entries
+  pub are : AreLists settings listing.rows lists
   pub all : AreSorted (IsInLists lists) paths
 
 -- what a search answers over these files, by the folders that it listed

@@ -1,6 +1,5 @@
 -- The limits of listing and reading.
-use Rattle.std.specs.Prelude.{◌≡◌, ◌⊎◌, ℕ, ◌+◌, ◌<◌, ◌≤◌, false, List, [], ◌∷◌, All, length, Some}
-use Rattle.std.specs.List.{Contains}
+use Rattle.std.specs.Prelude.{◌≡◌, ◌⊎◌, ℕ, ◌+◌, ◌<◌, ◌≤◌, List, [], ◌∷◌, ◌++◌, All, length, Some}
 use Rattle.std.specs.FinMap.{get}
 use Rattle.ct_base.specs.declared.limits.LimitKind.{LimitKind}
 use Rattle.ct_base.specs.declared.limits.LimitKind.TheVariants.{FileBytes, AllBytes, Entries, FolderDepth}
@@ -8,9 +7,7 @@ use Rattle.ct_outside.specs.Files.{Files, IsListing}
 use Rattle.ct_outside.specs.Paths.{components_of}
 use Rattle.ct_outside.specs.declared.tree.Entry.{Entry}
 use Rattle.ct_settings.specs.declared.record.ProjectSettings.{ProjectSettings}
-use Rattle.ct_find.specs.declared.starts.Start.{Start}
-use Rattle.ct_find.specs.Folders.{is_at_or_below}
-use Rattle.ct_find.specs.Order.{IsWhole, Lists, first_places}
+use Rattle.ct_find.specs.Order.{IsOrder}
 
 -- the most bytes of a file and of all files that are read, the most files, the most listed entries and the
 -- most components of a folder
@@ -41,7 +38,7 @@ HaveEntries files (folder ∷ folders) count =
 -- no limit is passed where these folders are listed, in which so many entries are
 pub record AreWithin (files : Files) (folders : List (List ℕ)) (count : ℕ) : Type 0 where
   pub shallow : All (λ folder. depth_of folder ≤ most_components) folders
-  pub counted : HaveEntries files (first_places folders) count
+  pub counted : HaveEntries files folders count
   pub few : count ≤ most_entries
 
 -- how the next folder passes a limit: it is too deep, and is not listed; or else its entries are too many with those
@@ -53,26 +50,18 @@ PassesAt files kind folder count =
 
 -- the first folder in the order of listing that passes a limit
 pub record ListingPasses (settings : ProjectSettings) (files : Files) (kind : LimitKind) (folder : List ℕ) : Type 0 where
-  pub starts : List Start
-  pub whole : IsWhole settings starts
   pub before : List (List ℕ)
-  pub start : Start
-  pub left : List Start
+  pub rest : List (List ℕ)
+  pub order : IsOrder settings files (before ++ folder ∷ rest)
   pub count : ℕ
-  pub lists : Lists files settings.build_root starts before (start ∷ left)
-  pub is : folder ≡ start.path
-  pub outside : is_at_or_below settings.build_root folder ≡ false
-  pub fresh : Contains before folder → ⊥
   pub within : AreWithin files before count
   pub passes : PassesAt files kind folder count
 
 -- all folders are listed, and no limit is passed
 pub record ListingStays (settings : ProjectSettings) (files : Files) : Type 0 where
-  pub starts : List Start
-  pub whole : IsWhole settings starts
   pub folders : List (List ℕ)
+  pub order : IsOrder settings files folders
   pub count : ℕ
-  pub lists : Lists files settings.build_root starts folders []
   pub within : AreWithin files folders count
 
 -- The first of these files that is too long, or else with which there are too many bytes, so many being read before.

@@ -60,20 +60,6 @@ AreChildren files folder children = AreSorted (IsChild files folder) children
 abbrev pub deep_starts : List (List ℕ) → List Start
 deep_starts folders = map (λ folder. record { path = folder; deep = true }) folders
 
--- What is listed for some starts, and which starts are left behind it. A start at or below the build root is
--- passed over. A start alone is listed; a deep one is listed and then, in sorted order, each folder in it
--- with all that lie below, and after these the other starts.
-pub data Lists (files : Files) (build : List ℕ) : List Start → List (List ℕ) → List Start → Type 0 where
-  nothing : {starts : List Start} → Lists files build starts [] starts
-  hidden : {start : Start} {starts : List Start} {folders : List (List ℕ)} {left : List Start}
-      → is_at_or_below build start.path ≡ true → Lists files build starts folders left → Lists files build (start ∷ starts) folders left
-  alone : {start : Start} {starts : List Start} {folders : List (List ℕ)} {left : List Start}
-      → is_at_or_below build start.path ≡ false → start.deep ≡ false
-      → Lists files build starts folders left → Lists files build (start ∷ starts) (start.path ∷ folders) left
-  with_all_below : {start : Start} {starts : List Start} {folders : List (List ℕ)} {left : List Start} (children : List (List ℕ))
-      → is_at_or_below build start.path ≡ false → start.deep ≡ true → AreChildren files start.path children
-      → Lists files build (deep_starts children ++ starts) folders left → Lists files build (start ∷ starts) (start.path ∷ folders) left
-
 -- all starts: the groups come in the order test, source, include, support
 pub record IsWhole (settings : ProjectSettings) (starts : List Start) : Type 0 where
   pub test : List Start
@@ -92,6 +78,30 @@ places_after seen [] = []
 places_after seen (folder ∷ folders) =
     if list_any (bytes_eq folder) seen then places_after seen folders else folder ∷ places_after (folder ∷ seen) folders
 
--- A folder is listed once.
+-- a folder is listed once
 abbrev pub first_places : List (List ℕ) → List (List ℕ)
 first_places folders = places_after [] folders
+
+mutual
+  -- The walk of a start: nothing, where it is at or below the build root; the folder alone, where it is not deep;
+  -- else the folder, and then in sorted order each folder in it with all that lie below.
+  pub data IsWalk (files : Files) (build : List ℕ) : Start → List (List ℕ) → Type 0 where
+    hidden : {start : Start} → is_at_or_below build start.path ≡ true → IsWalk files build start []
+    alone : {start : Start} → is_at_or_below build start.path ≡ false → start.deep ≡ false → IsWalk files build start (start.path ∷ [])
+    with_all_below : {start : Start} (children : List (List ℕ)) {below : List (List ℕ)}
+        → is_at_or_below build start.path ≡ false → start.deep ≡ true → AreChildren files start.path children
+        → AreWalks files build (deep_starts children) below → IsWalk files build start (start.path ∷ below)
+
+  -- the walks of these starts, one behind the other
+  pub data AreWalks (files : Files) (build : List ℕ) : List Start → List (List ℕ) → Type 0 where
+    nothing : AreWalks files build [] []
+    followed : {start : Start} {starts : List Start} {walk walks : List (List ℕ)}
+        → IsWalk files build start walk → AreWalks files build starts walks → AreWalks files build (start ∷ starts) (walk ++ walks)
+
+-- The folders in the order of listing: the walks of all starts, where each folder stands at its first place alone.
+pub record IsOrder (settings : ProjectSettings) (files : Files) (folders : List (List ℕ)) : Type 0 where
+  pub starts : List Start
+  pub whole : IsWhole settings starts
+  pub walks : List (List ℕ)
+  pub are : AreWalks files settings.build_root starts walks
+  pub once : folders ≡ first_places walks

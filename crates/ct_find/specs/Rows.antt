@@ -15,12 +15,13 @@ use Rattle.ct_base.specs.declared.memory.Fail.TheVariants.{Fault, OutOfMemory}
 use Rattle.ct_find.specs.declared.files.FindFault.{FindFault}
 use Rattle.ct_find.specs.declared.files.FindFault.TheVariants.{Read, Limit}
 use Rattle.ct_find.specs.declared.walking.Listing.{Listing}
-use Rattle.ct_find.specs.declared.walking.Row.{Row}
+use Rattle.ct_find.specs.declared.rows.Row.{Row}
 use Rattle.ct_find.specs.declared.picking.Groups.{Groups}
 use Rattle.ct_find.specs.declared.picking.Kind.{Kind}
 use Rattle.ct_find.specs.declared.picking.Kind.TheVariants.{Test, Source, Header}
 use Rattle.ct_find.specs.Folders.{IsAdded, IsRemoved, is_at_or_below, is_test_name}
-use Rattle.ct_find.specs.Order.{Lists, deep_starts, first_places, inside}
+use Rattle.ct_find.specs.Order.{AreChildren, deep_starts, first_places, inside}
+use Rattle.ct_find.specs.Places.{IsFresh}
 use Rattle.ct_find.specs.declared.search.FileLists.{FileLists}
 use Rattle.ct_find.specs.declared.starts.Start.{Start}
 use Rattle.ct_find.specs.Limits.{PassesAt, ReadingPasses, ReadingStays, depth_of, most_bytes, most_components, most_entries, most_file_bytes}
@@ -93,14 +94,10 @@ IsPicked rows settings kind path = (row : Row) × Contains rows row × IsPickedI
 abbrev pub AreListings : Files → List Row → Type 0
 AreListings files rows = (row : Row) → Contains rows row → IsListing files row.folder row.entries
 
--- no folder that was listed is this one
-abbrev pub IsFresh : List Row → List ℕ → Type 0
-IsFresh rows folder = (row : Row) → Contains rows row → row.folder ≡ folder → ⊥
-
 -- a folder was listed behind the others, and no limit is passed
 abbrev pub AddsRow : List ℕ → Listing → Listing → Row → Type 0
 AddsRow folder old new row =
-    (new.rows.items ≡ old.rows.items ++ row ∷ []) × (row.folder ≡ folder) × (depth_of folder ≤ most_components)
+    (new.rows ≡ old.rows ++ row ∷ []) × (row.folder ≡ folder) × (depth_of folder ≤ most_components)
     × (new.entries ≡ old.entries + length row.entries) × (new.entries ≤ most_entries)
 
 -- what the listing of a folder answers over these files: its entries, or that it passes a limit
@@ -127,7 +124,7 @@ AddsChildren row old new = (children : List (List ℕ)) × AreSorted (IsRowChild
 
 -- the row of a folder: it was there before, or it is added now
 abbrev pub IsListedRow : List ℕ → Row → Listing → Listing → Type 0
-IsListedRow folder row old new = (Contains old.rows.items row × (new ≡ old)) ⊎ (IsFresh old.rows.items folder × AddsRow folder old new row)
+IsListedRow folder row old new = (Contains old.rows row × (new ≡ old)) ⊎ (IsFresh old.rows folder × AddsRow folder old new row)
 
 -- a start that was visited: its folder is listed, at most once, and where it is deep the folders in it come next
 abbrev pub Visits : Start → Row → Listing → Listing → List Start → List Start → Type 0
@@ -140,7 +137,20 @@ abbrev pub VisitTells : {A : Type 0} → Files → List ℕ → Listing → List
 VisitTells files folder old new (Ok done) = (row : Row) → AddsRow folder old new row → IsListing files folder row.entries
 VisitTells files folder old new (Err OutOfMemory) = Unit {0}
 VisitTells files folder old new (Err (Fault Read)) = Unit {0}
-VisitTells files folder old new (Err (Fault (Limit kind path))) = (path ≡ folder) × IsFresh old.rows.items folder × PassesAt files kind folder old.entries
+VisitTells files folder old new (Err (Fault (Limit kind path))) = (path ≡ folder) × IsFresh old.rows folder × PassesAt files kind folder old.entries
+
+-- What the walk comes to for some starts, and which starts are left behind it, a start at a time: a start at or below
+-- the build root is passed over, a start alone is listed, and a deep one is listed and the folders in it come next.
+pub data Lists (files : Files) (build : List ℕ) : List Start → List (List ℕ) → List Start → Type 0 where
+  nothing : {starts : List Start} → Lists files build starts [] starts
+  hidden : {start : Start} {starts : List Start} {folders : List (List ℕ)} {left : List Start}
+      → is_at_or_below build start.path ≡ true → Lists files build starts folders left → Lists files build (start ∷ starts) folders left
+  alone : {start : Start} {starts : List Start} {folders : List (List ℕ)} {left : List Start}
+      → is_at_or_below build start.path ≡ false → start.deep ≡ false
+      → Lists files build starts folders left → Lists files build (start ∷ starts) (start.path ∷ folders) left
+  with_all_below : {start : Start} {starts : List Start} {folders : List (List ℕ)} {left : List Start} (children : List (List ℕ))
+      → is_at_or_below build start.path ≡ false → start.deep ≡ true → AreChildren files start.path children
+      → Lists files build (deep_starts children ++ starts) folders left → Lists files build (start ∷ starts) (start.path ∷ folders) left
 
 -- what was listed so far, for the starts of a walk and those that are left
 pub record IsWalked (files : Files) (build : List ℕ) (starts left : List Start) (rows : List Row) (count : ℕ) : Type 0 where
@@ -166,7 +176,7 @@ pub record WalkPasses (files : Files) (build : List ℕ) (starts : List Start) (
 
 -- what a walk says of these files
 abbrev pub WalkTells : Files → List ℕ → List Start → Result Listing (Fail FindFault) → Type 0
-WalkTells files build starts (Ok listing) = IsWalked files build starts [] listing.rows.items listing.entries
+WalkTells files build starts (Ok listing) = IsWalked files build starts [] listing.rows listing.entries
 WalkTells files build starts (Err OutOfMemory) = Unit {0}
 WalkTells files build starts (Err (Fault Read)) = Unit {0}
 WalkTells files build starts (Err (Fault (Limit kind path))) = WalkPasses files build starts kind path

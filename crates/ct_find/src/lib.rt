@@ -6,13 +6,16 @@ mod groups;
 mod laws;
 mod picking;
 mod reading;
+mod rows;
 mod search;
 mod sets;
 mod starts;
 #[cfg(test)]
 mod tests;
+#[cfg(test)]
+mod tree_tests;
 mod walking;
 
 pub use files::{Files, FindFault};
-pub use laws::one_finding;
+pub use laws::{one_finding, one_order};
 pub use search::find;

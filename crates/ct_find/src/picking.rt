@@ -6,8 +6,9 @@ ghost use Rattle.ct_find.specs.Folders.{IsAdded, IsRemoved};
 ghost use Rattle.ct_find.specs.Rows.{AreGroups, AreSearched, HaveGroups, IsMatched, IsMatchedRow, IsPicked, IsPickedBy, kind_of, texts_of};
 ghost use Rattle.ct_find.specs.Sets.{AreSorted};
 
+use crate::rows::Row;
 use crate::sets::sorted_once;
-use crate::walking::{Row, inside};
+use crate::walking::inside;
 use ct_base::{Items, Mem, Text};
 use ct_outside::{Entry, matches};
 use ct_settings::{Pattern, ProjectSettings};

@@ -8,30 +8,31 @@ use ct_settings::{Cmock, Pattern, ProjectSettings, WhenPtr};
 use std::alloc::Global;
 use std::test::Fail;
 
-/// Patterns; one with a leading `-` removes.
-fn patterns(alloc: Global, paths: &[&str]) -> Result<Items<Pattern>, Fail> {
-    let mut patterns = Items::new(alloc);
-    for path in paths {
-        let (add, path) = match path.strip_prefix('-') {
-            Some(path) => (false, path),
-            None => (true, *path),
-        };
-        patterns.push(Pattern {
-            add,
-            path: Text::copy_of(alloc, path)?,
-        })?;
+/// The patterns of a group among those of a project, which stand between bars: first the letter of
+/// the group, and then `+` before a pattern that adds or `-` before one that removes.
+fn group(alloc: Global, patterns: &str, letter: char) -> Result<Items<Pattern>, Fail> {
+    let mut group = Items::new(alloc);
+    for pattern in patterns.split('|') {
+        if let Some(signed) = pattern.strip_prefix(letter) {
+            let add = signed.starts_with('+');
+            let path = signed.strip_prefix('-').unwrap_or(signed);
+            let path = Text::copy_of(alloc, path.strip_prefix('+').unwrap_or(path))?;
+            group.push(Pattern { add, path })?;
+        }
     }
-    Ok(patterns)
+    Ok(group)
 }
 
-fn settings(alloc: Global, test: &[&str], source: &[&str]) -> Result<ProjectSettings, Fail> {
+/// The settings of a project with the patterns of test, source, include and support folders, whose
+/// letters are `t`, `s`, `i` and `p`.
+pub fn settings(alloc: Global, patterns: &str) -> Result<ProjectSettings, Fail> {
     Ok(ProjectSettings {
         build_root: Text::copy_of(alloc, "build")?,
         test_prefix: Text::copy_of(alloc, "test_")?,
-        test: patterns(alloc, test)?,
-        source: patterns(alloc, source)?,
-        include: Items::new(alloc),
-        support: Items::new(alloc),
+        test: group(alloc, patterns, 't')?,
+        source: group(alloc, patterns, 's')?,
+        include: group(alloc, patterns, 'i')?,
+        support: group(alloc, patterns, 'p')?,
         defines: Items::new(alloc),
         cmock: Cmock {
             mock_prefix: Text::copy_of(alloc, "mock_")?,
@@ -48,18 +49,18 @@ fn settings(alloc: Global, test: &[&str], source: &[&str]) -> Result<ProjectSett
     })
 }
 
-/// The items of a list, each before a space.
-fn shown(alloc: Global, items: &Items<Text>) -> Result<String, Fail> {
+/// The items of a list, each behind a bar.
+pub fn shown(alloc: Global, items: &Items<Text>) -> Result<String, Fail> {
     let mut text = String::new(alloc);
     for item in items.as_slice() {
+        text.push('|')?;
         text.push_str(item.as_str())?;
-        text.push(' ')?;
     }
     Ok(text)
 }
 
 /// The limit at which a search ended, its name before a space and the path.
-fn ending(alloc: Global, answer: Out<Files, FindFault>) -> Result<String, Fail> {
+pub fn ending(alloc: Global, answer: Out<Files, FindFault>) -> Result<String, Fail> {
     match answer {
         Ok(_) => Ok(String::from_str(alloc, "found")?),
         Err(Stop::OutOfMemory) => Ok(String::from_str(alloc, "memory")?),
@@ -71,47 +72,20 @@ fn ending(alloc: Global, answer: Out<Files, FindFault>) -> Result<String, Fail> 
 }
 
 #[test]
-fn lists_are_sorted_and_patterns_remove(rt: HostRuntime) -> Result<(), Fail> {
+fn listed_files_have_their_texts(rt: HostRuntime) -> Result<(), Fail> {
     let alloc = rt.alloc();
     let mut tree = MemTree::new(alloc, Vec::new(alloc));
-    for path in [
-        "test/test_a.c",
-        "test/old/test_b.c",
-        "test/sub/test_c.c",
-        "test/sub/test.h",
-        "src/lamp.c",
-        "src/lamp.h",
-        "src/gpio.h",
-        "src/test_d.c",
-        "build/test/test_e.c",
-    ] {
-        tree.put(path, b"x")?;
+    for path in ["test/test_a.c", "test/old/test_b.c", "src/gpio.h"] {
+        tree.put(path, path.as_bytes())?;
     }
-    let settings = settings(
-        alloc,
-        &["test/**", "**/build/**", "-test/old/**"],
-        &["src/**"],
-    )?;
+    let settings = settings(alloc, "t+test/**|t-test/old/**|s+src/**")?;
     let Ok(found) = find(alloc, &mut tree, &settings) else {
         return Err(Fail::from("a limit or a fault"));
     };
-    assert_eq!(rt;
-        shown(alloc, &found.tests)?.as_str(),
-        "test/sub/test_c.c test/test_a.c "
-    );
-    assert_eq!(rt;
-        shown(alloc, &found.sources)?.as_str(),
-        "src/lamp.c src/test_d.c "
-    );
-    assert_eq!(rt;
-        shown(alloc, &found.headers)?.as_str(),
-        "src/gpio.h src/lamp.h test/sub/test.h "
-    );
-    assert_eq!(rt;
-        shown(alloc, &found.folders)?.as_str(),
-        "src test test/sub "
-    );
-    assert_eq!(rt; found.texts.get("src/gpio.h"), Some(b"x".as_slice()));
+    assert_eq!(rt; shown(alloc, &found.tests)?.as_str(), "|test/test_a.c");
+    for path in ["test/test_a.c", "src/gpio.h"] {
+        assert_eq!(rt; found.texts.get(path), Some(path.as_bytes()));
+    }
     assert_eq!(rt; found.texts.get("test/old/test_b.c"), None);
     Ok(())
 }
@@ -149,7 +123,7 @@ fn nested(alloc: Global, depth: u64, failing: &[(TreeCall, u64)]) -> Result<MemT
 #[test]
 fn a_folder_has_32_components_at_most(rt: HostRuntime) -> Result<(), Fail> {
     let alloc = rt.alloc();
-    let settings = settings(alloc, &["d/**"], &[])?;
+    let settings = settings(alloc, "t+d/**")?;
     let rows = [(32, 50, "found"), (33, 33, "FolderDepth"), (32, 32, "read")];
     for (depth, failing, expected) in rows {
         let mut tree = nested(alloc, depth, &[(TreeCall::List, failing)])?;
@@ -160,15 +134,15 @@ fn a_folder_has_32_components_at_most(rt: HostRuntime) -> Result<(), Fail> {
 }
 
 #[test]
-fn files_and_bytes_have_limits(rt: HostRuntime) -> Result<(), Fail> {
+fn bytes_have_limits(rt: HostRuntime) -> Result<(), Fail> {
     let alloc = rt.alloc();
-    let settings = settings(alloc, &["test/**"], &["src/**"])?;
+    let settings = settings(alloc, "t+test/**|s+src/**")?;
     let big = vec![in alloc; 32u8; 1048577]?;
     let large = vec![in alloc; 32u8; 1048576]?;
     let rows = [
-        (".h", 2001, b"x".as_slice(), 1, "Files src/f12000.h"),
         (".h", 1, large.as_slice(), 9, "found"),
         (".h", 2, big.as_slice(), 2, "FileBytes src/f10000.h"),
+        (".c", 16, large.as_slice(), 17, "found"),
         (".c", 18, large.as_slice(), 18, "AllBytes src/f10016.c"),
     ];
     for (back, count, bytes, failing, expected) in rows {
@@ -176,6 +150,23 @@ fn files_and_bytes_have_limits(rt: HostRuntime) -> Result<(), Fail> {
         let mut tree = numbered(alloc, "src/f", back, count, bytes, &failing)?;
         let ending = ending(alloc, find(alloc, &mut tree, &settings))?;
         assert_eq!(rt; ending.as_str(), expected, "{back} {count}");
+    }
+    Ok(())
+}
+
+#[test]
+fn sixteen_mebibytes_are_read(rt: HostRuntime) -> Result<(), Fail> {
+    let alloc = rt.alloc();
+    let settings = settings(alloc, "s+src")?;
+    let large = vec![in alloc; 32u8; 1048576]?;
+    for (more, expected) in [
+        (b"".as_slice(), "found"),
+        (b"x".as_slice(), "AllBytes src/g.c"),
+    ] {
+        let mut tree = numbered(alloc, "src/f", ".c", 16, large.as_slice(), &[])?;
+        tree.put("src/g.c", more)?;
+        let ending = ending(alloc, find(alloc, &mut tree, &settings))?;
+        assert_eq!(rt; ending.as_str(), expected);
     }
     Ok(())
 }

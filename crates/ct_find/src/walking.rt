@@ -1,18 +1,20 @@
 //! The listing of folders.
 
-ghost use Rattle.std.specs.Prelude.{◌≡◌, ◌+◌, ◌<◌, ◌≤◌, ◌++◌, Some, IfOk, IsTrue, OnOk, MatchOption, length, reverse, slice_get, slice_index_or, string_bytes};
+ghost use Rattle.std.specs.Prelude.{◌≡◌, ◌+◌, ◌<◌, ◌≤◌, ◌++◌, Some, IfOk, IsTrue, OnOk, length, reverse, slice_get, slice_index_or, string_bytes};
 ghost use Rattle.std.specs.List.{list_any};
 ghost use Rattle.ct_outside.specs.Files.{Files, is_slash};
 ghost use Rattle.ct_find.specs.declared.files.FindFault.TheVariants.{Limit as limit_fault};
-ghost use Rattle.ct_find.specs.declared.walking.Row.{Row};
+ghost use Rattle.ct_find.specs.Places.{StandsAt};
+ghost use Rattle.ct_find.specs.declared.rows.Row.{Row};
 ghost use Rattle.ct_find.specs.Folders.{is_at_or_below};
 ghost use Rattle.ct_find.specs.Limits.{depth_of, most_entries};
 ghost use Rattle.ct_find.specs.Order.{deep_starts, inside};
 ghost use Rattle.ct_find.specs.Results.{FaultsAfter};
-ghost use Rattle.ct_find.specs.Rows.{AddsChildren, AddsRow, IsFresh, IsListedRow, IsRowChild, ListsNext, VisitTells, Visits, WalkTells, is_child};
+ghost use Rattle.ct_find.specs.Rows.{AddsChildren, AddsRow, IsListedRow, IsRowChild, ListsNext, VisitTells, Visits, WalkTells, is_child};
 ghost use Rattle.ct_find.specs.Sets.{AreSorted};
 
 use crate::files::FindFault;
+use crate::rows::{Row, Rows};
 use crate::sets::sorted_once;
 use crate::starts::Start;
 use ct_base::{Fail, Items, LimitKind, Mem, Out, Text};
@@ -25,17 +27,10 @@ const MOST_ENTRIES: usize = 20000;
 /// The most components of a folder.
 const MOST_COMPONENTS: usize = 32;
 
-/// A folder that was listed, and its entries.
-#[derive(Debug, Drop)]
-pub struct Row {
-    pub folder: Text,
-    pub entries: Items<Entry>,
-}
-
 /// The folders that were listed, in this order, and how many entries they have.
 #[derive(Debug, Drop)]
 pub struct Listing {
-    pub rows: Vec<Row>,
+    pub rows: Rows,
     pub entries: usize,
 }
 
@@ -78,19 +73,6 @@ pub fn inside(alloc: Global, folder: &str, name: &str) -> Mem<String>
     path.push('/')?;
     path.push_str(name)?;
     Ok(path)
-}
-
-/// The place of a folder that was listed.
-fn place_of(rows: &[Row], folder: &str) -> Option<usize>
-    ensures { MatchOption result (IsFresh rows.now folder.now)
-        (λ place. (row : Row) × (slice_get rows.now place ≡ Some row) × (row.folder ≡ folder.now)) }
-{
-    for (place, row) in rows.iter().enumerate() {
-        if row.folder.as_str() == folder {
-            return Some(place);
-        }
-    }
-    None
 }
 
 /// Lists a folder.
@@ -188,14 +170,14 @@ fn listed<T: Tree>(
     listing: &mut Listing,
 ) -> Out<usize, FindFault>
     requires { listing.old.entries ≤ most_entries }
-    ensures row { IfOk result (λ place. (row : Row) × (slice_get listing.new.rows.items place ≡ Some row) × (row.folder ≡ folder.now)
+    ensures row { IfOk result (λ place. (row : Row) × (slice_get listing.new.rows place ≡ Some row) × (row.folder ≡ folder.now)
         × IsListedRow folder.now row listing.old listing.new) }
     ensures told { (files : Files) → T.files tree.old ≡ Some files → VisitTells files folder.now listing.old listing.new result }
     ensures same_files { T.files tree.new ≡ T.files tree.old }
     ensures faults { FaultsAfter result (T.read_faults tree.old) (T.read_faults tree.new) }
     ensures write_faults { T.write_faults tree.new ≡ T.write_faults tree.old }
 {
-    if let Some(place) = place_of(listing.rows.as_slice(), folder) {
+    if let Some(place) = listing.rows.place_of(folder) {
         return Ok(place);
     }
     let place = listing.rows.len();
@@ -227,7 +209,7 @@ fn visit<T: Tree>(
         Err(fail) => return Err(fail),
     };
     if start.deep {
-        add_children(alloc, &listing.rows[place], left)?;
+        add_children(alloc, &listing.rows.as_slice()[place], left)?;
     }
     Ok(())
 }
@@ -247,7 +229,7 @@ pub fn walk<T: Tree>(
 {
     let mut left = starts;
     let mut listing = Listing {
-        rows: Vec::new(alloc),
+        rows: Rows::new(alloc),
         entries: 0,
     };
     for _ in 0..u64::MAX {

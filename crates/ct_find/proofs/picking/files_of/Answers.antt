@@ -1,6 +1,6 @@
 use Rattle.std.proofs.Common.{arith, subst, List}
 use Rattle.std.proofs.lemmas.Result.{IfOk-weaker}
-use Rattle.ct_find.specs.declared.walking.Row.{Row}
+use Rattle.ct_find.specs.declared.rows.Row.{Row}
 use Rattle.ct_find.specs.Rows.{HaveGroups}
 use Rattle.ct_find.proofs.Members.{all_taken}
 use Rattle.ct_find.proofs.PickLemmas.{all_picked, groups_added, picked_none, on_ok, row_added}

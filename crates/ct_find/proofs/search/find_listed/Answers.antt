@@ -11,21 +11,21 @@ pub returns-in-Err-check_count-clause-told : goal.returns-in-Err-check_count-cla
 returns-in-Err-check_count-clause-told g c files told =
     count_stops c.args.settings.now files c.in_ok-lists.lists c.in_ok-paths.paths c.in-Err-check_count.fail
     (listed_by c.args.settings.now files (reverse c.in_ok-left.left.items) c.in-Ok.listing c.in_ok-lists.lists c.in_ok-paths.paths c.in_ok-left.ensures
-    (rw c.as_str.ensures at (c.in-Ok.ensures.told files told)) (rw c.as_slice.ensures.value at c.in_ok-lists.ensures) c.in_ok-paths.ensures)
+    (rw c.as_str.ensures at (c.in-Ok.ensures.told files told)) (rw c.as_slice.ensures at c.in_ok-lists.ensures) c.in_ok-paths.ensures)
     (subst (λ (ps : List (List ℕ)). CountTells ps (Err c.in-Err-check_count.fail)) c.as_slice-2.ensures c.in-Err-check_count.ensures.limit)
 
 pub returns-in-Err-read_files-clause-told : goal.returns-in-Err-read_files-clause-told
 returns-in-Err-read_files-clause-told g c files told =
     read_fails c.args.settings.now files c.in_ok-lists.lists c.in_ok-paths.paths c.in-Err-read_files.fail
     (listed_by c.args.settings.now files (reverse c.in_ok-left.left.items) c.in-Ok.listing c.in_ok-lists.lists c.in_ok-paths.paths c.in_ok-left.ensures
-    (rw c.as_str.ensures at (c.in-Ok.ensures.told files told)) (rw c.as_slice.ensures.value at c.in_ok-lists.ensures) c.in_ok-paths.ensures)
+    (rw c.as_str.ensures at (c.in-Ok.ensures.told files told)) (rw c.as_slice.ensures at c.in_ok-lists.ensures) c.in_ok-paths.ensures)
     (subst (λ (ps : List (List ℕ)). length ps ≤ most_files) c.as_slice-2.ensures c.in_default.ensures.ok)
     (λ there. subst (λ (ps : List (List ℕ)). ReadsAll files ps (Err c.in-Err-read_files.fail)) c.as_slice-3.ensures (c.in-Err-read_files.ensures.told files (c.in-Ok.ensures.same_files ∙ told) (subst (λ (ps : List (List ℕ)). AreThere files ps) (sym c.as_slice-3.ensures) there)))
 
 pub returns-clause-told : goal.returns-clause-told
 returns-clause-told g c files told =
     let listed = listed_by c.args.settings.now files (reverse c.in_ok-left.left.items) c.in-Ok.listing c.in_ok-lists.lists c.in_ok-paths.paths c.in_ok-left.ensures
-    (rw c.as_str.ensures at (c.in-Ok.ensures.told files told)) (rw c.as_slice.ensures.value at c.in_ok-lists.ensures) c.in_ok-paths.ensures in (
+    (rw c.as_str.ensures at (c.in-Ok.ensures.told files told)) (rw c.as_slice.ensures at c.in_ok-lists.ensures) c.in_ok-paths.ensures in (
       c.in_ok-lists.lists,
       c.in_ok-paths.paths,
       listed,

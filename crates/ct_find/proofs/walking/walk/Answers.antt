@@ -8,7 +8,7 @@ use Rattle.ct_find.proofs.walking.walk.Goals as goal
 
 pub loop-init : goal.loop-init
 loop-init g c = (
-  λ files told. walked_none files c.args.build.now (reverse c.args.starts.items) c.new.result.items c.new.ensures.items,
+  λ files told. walked_none files c.args.build.now (reverse c.args.starts.items) c.new.result c.new.ensures,
   omega arith,
   refl,
   refl,
@@ -18,14 +18,14 @@ loop-init g c = (
 pub returns-in_default-clause-told : goal.returns-in_default-clause-told
 returns-in_default-clause-told g c files told =
     let none : length c.loop.left.items ≡ 0 = search rules in
-    subst (λ (ls : List Start). IsWalked files c.args.build.now (reverse c.args.starts.items) ls c.loop.listing.rows.items c.loop.listing.entries)
+    subst (λ (ls : List Start). IsWalked files c.args.build.now (reverse c.args.starts.items) ls c.loop.listing.rows c.loop.listing.entries)
     (none_left c.loop.left.items none) (c.loop.invariant.0 files told)
 
 pub loop-preserved-then-is_at_or_below : goal.loop-preserved-then-is_at_or_below
 loop-preserved-then-is_at_or_below g c = (
   λ files told.
-      walked_hidden files c.args.build.now (reverse c.args.starts.items) (reverse c.pop.new.self.items) c.in-Some.start c.loop.listing.rows.items c.loop.listing.entries
-      (subst (λ (ls : List Start). IsWalked files c.args.build.now (reverse c.args.starts.items) ls c.loop.listing.rows.items c.loop.listing.entries)
+      walked_hidden files c.args.build.now (reverse c.args.starts.items) (reverse c.pop.new.self.items) c.in-Some.start c.loop.listing.rows c.loop.listing.entries
+      (subst (λ (ls : List Start). IsWalked files c.args.build.now (reverse c.args.starts.items) ls c.loop.listing.rows c.loop.listing.entries)
       (next_last c.loop.left.items c.pop.new.self.items c.in-Some.start c.in-Some.ensures.items) (c.loop.invariant.0 files told)) (sym (c.is_at_or_below.ensures ∙ ap (is_at_or_below c.args.build.now) c.as_str.ensures) ∙ c.if-is_at_or_below.true),
   c.loop.invariant.1,
   c.loop.invariant.2,
@@ -36,7 +36,7 @@ loop-preserved-then-is_at_or_below g c = (
 pub returns-in-Err-clause-told : goal.returns-in-Err-clause-told
 returns-in-Err-clause-told g c files told =
     walk_passes files c.args.build.now (reverse c.args.starts.items) (reverse c.pop.new.self.items) c.in-Some.start c.loop.listing c.visit.new.listing c.in-Err.fail
-    (subst (λ (ls : List Start). IsWalked files c.args.build.now (reverse c.args.starts.items) ls c.loop.listing.rows.items c.loop.listing.entries)
+    (subst (λ (ls : List Start). IsWalked files c.args.build.now (reverse c.args.starts.items) ls c.loop.listing.rows c.loop.listing.entries)
     (next_last c.loop.left.items c.pop.new.self.items c.in-Some.start c.in-Some.ensures.items) (c.loop.invariant.0 files told)) (sym (c.is_at_or_below.ensures ∙ ap (is_at_or_below c.args.build.now) c.as_str.ensures) ∙ c.if-is_at_or_below.false)
     (c.in-Err.ensures.told files (c.loop.invariant.2 ∙ told))
 
@@ -45,7 +45,7 @@ loop-preserved g c =
     let row = c.in_default-visit.ensures.row in (
       (λ files told.
           walked_visit files c.args.build.now (reverse c.args.starts.items) (reverse c.pop.new.self.items) (reverse c.visit.new.left.items) c.in-Some.start row.0 c.loop.listing c.visit.new.listing
-          (subst (λ (ls : List Start). IsWalked files c.args.build.now (reverse c.args.starts.items) ls c.loop.listing.rows.items c.loop.listing.entries)
+          (subst (λ (ls : List Start). IsWalked files c.args.build.now (reverse c.args.starts.items) ls c.loop.listing.rows c.loop.listing.entries)
           (next_last c.loop.left.items c.pop.new.self.items c.in-Some.start c.in-Some.ensures.items) (c.loop.invariant.0 files told)) (sym (c.is_at_or_below.ensures ∙ ap (is_at_or_below c.args.build.now) c.as_str.ensures) ∙ c.if-is_at_or_below.false)
           row.1.0 row.1.1 (c.in_default-visit.ensures.told files (c.loop.invariant.2 ∙ told)) row.1.2 (λ e. ap reverse (row.1.3 e))),
       c.in_default-visit.ensures.few,

@@ -1,0 +1,71 @@
+#!/bin/bash
+# Makes projects of 100, 400 and 1,600 files in nested folders (sources, headers and test files with one test each),
+# runs the built program over each, and prints the seconds and how many times as long each takes as the one before.
+# 16 times the files may take at most 24 times as long: else the status is 1. It is a benchmark and no test.
+set -eu
+home=$(CDPATH= cd -- "$(dirname -- "$0")/.." && pwd -P)
+work=$(mktemp -d)
+trap 'rm -rf "$work"' EXIT
+(cd "$work" && "$home/ceedling" >/dev/null) || [ $? -eq 64 ]   # builds the program, where that is needed
+program=$home/crates/ct_cli/out/ct_cli
+
+# Of ten files four are tests, three are sources and three are headers; twenty files of a kind lie in one folder,
+# and five folders in one.
+make_project() {
+    mkdir -p "$work/$1"
+    : >"$work/$1/project.yml"
+    awk -v files="$1" -v root="$work/$1" '
+        function folder_of(group, number,   part, path) {
+            part = int(number / 20)
+            path = root "/" group "/part" int(part / 5) "/folder" part
+            if (!(path in made)) { system("mkdir -p " path); made[path] = 1 }
+            return path
+        }
+        BEGIN {
+            for (i = 0; i < files; i++) {
+                kind = i % 10
+                if (kind < 4) {
+                    path = folder_of("test", tests++) "/test_" i ".c"
+                    printf "#include \"unity.h\"\nvoid test_%d(void)\n{\n    TEST_ASSERT_EQUAL_INT(%d, %d);\n}\n", i, i, i >path
+                } else if (kind < 7) {
+                    path = folder_of("src", sources++) "/lamp_" i ".c"
+                    printf "int lamp_%d(void)\n{\n    return %d;\n}\n", i, i >path
+                } else {
+                    path = folder_of("src", headers++) "/lamp_" i ".h"
+                    printf "int lamp_%d(void);\n", i >path
+                }
+                close(path)
+            }
+        }'
+}
+
+# The seconds of the fastest of five runs of the program itself, without the script that looks for newer sources.
+seconds_of() {
+    local best= start end
+    for _ in 1 2 3 4 5; do
+        start=$(date +%s.%N)
+        (cd "$work/$1" && "$program" test:all >"$work/report")
+        end=$(date +%s.%N)
+        best=$(awk -v a="$start" -v b="$end" -v c="$best" 'BEGIN { t = b - a; if (c != "" && c < t) t = c; printf "%.3f", t }')
+    done
+    echo "$best"
+}
+
+first=
+last=
+for files in 100 400 1600; do
+    make_project "$files"
+    seconds=$(seconds_of "$files")
+    if [ -z "$first" ]; then
+        first=$seconds
+        echo "$files files: $seconds s"
+    else
+        awk -v f="$files" -v s="$seconds" -v l="$last" -v o="$first" \
+            'BEGIN { printf "%d files: %s s, %.1f times the size before, %.1f times 100 files\n", f, s, s / l, s / o }'
+    fi
+    last=$seconds
+done
+awk -v s="$last" -v o="$first" 'BEGIN { exit s > 24 * o }' || {
+    echo "16 times the files take more than 24 times as long"
+    exit 1
+}
