@@ -3,7 +3,7 @@
 ghost use Rattle.ct_find.specs.declared.files.FindFault.TheVariants.{Read};
 
 use ct_base::{Fail, Items, LimitKind, Out, Text};
-use ct_outside::{Texts, TreeError};
+use ct_outside::{Finder, Texts, TreeError};
 
 /// The files of a project: its lists are sorted by the bytes of the paths.
 #[derive(Debug, Drop)]
@@ -18,6 +18,18 @@ pub struct Files {
     pub folders: Items<Text>,
     /// The text of each listed file.
     pub texts: Texts,
+}
+
+impl Finder for Files {
+    ghost use Rattle.std.specs.Prelude.{◌≡◌};
+    ghost use Rattle.std.specs.Option.{option_copied};
+    ghost use Rattle.std.specs.FinMap.{get};
+
+    ghost texts = { λ files. files.texts };
+
+    fn get(&self, path: &str) -> Option<&[u8]> {
+        self.texts.get(path)
+    }
 }
 
 /// Why a search ended without files.

@@ -136,7 +136,7 @@ fn logs_of_tests(alloc: Global, files: &Files) -> Out<Vec<RunLog>, Refusal>
     ensures refused { IfFault result (λ refusal. TestsMean files.now.texts files.now.tests (Err refusal)) }
 {
     check_names(alloc, files.tests.as_slice())?;
-    run_files(alloc, &files.texts, files.tests.as_slice())
+    run_files(alloc, files, files.tests.as_slice())
 }
 
 /// The whole report of the logs.
