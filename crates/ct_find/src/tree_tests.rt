@@ -1,7 +1,7 @@
 //! Tests of trees: which folders are listed, in what order, and what their files are.
 
-use crate::find;
 use crate::tests::{ending, settings, shown};
+use crate::{Files, find};
 use ct_base::{OutOfMemory, Text};
 use ct_outside::{Entry, Found, MemTree, Tree, TreeCall, TreeError};
 use std::alloc::Global;
@@ -21,18 +21,23 @@ fn part(line: &str, index: usize) -> &str {
     line.split(';').nth(index).unwrap_or("").trim()
 }
 
-/// What is found in the files and by the patterns of a line: the tests, sources, headers and folders.
-fn found(alloc: Global, line: &str) -> Result<String, Fail> {
-    let mut tree = tree_of(alloc, part(line, 1), &[])?;
-    let settings = settings(alloc, part(line, 2))?;
-    let Ok(found) = find(alloc, &mut tree, &settings) else {
-        return Err(Fail::from("a limit or a fault"));
-    };
+/// The tests, sources, headers and folders that were found.
+fn lists(alloc: Global, found: &Files) -> Result<String, Fail> {
     let tests = shown(alloc, &found.tests)?;
     let sources = shown(alloc, &found.sources)?;
     let headers = shown(alloc, &found.headers)?;
     let folders = shown(alloc, &found.folders)?;
     Ok(format!(in alloc; "{tests};{sources};{headers};{folders}")?)
+}
+
+/// What is found in the files and by the patterns of a line.
+fn found(alloc: Global, line: &str) -> Result<String, Fail> {
+    let mut tree = tree_of(alloc, part(line, 1), &[])?;
+    let settings = settings(alloc, part(line, 2))?;
+    match find(alloc, &mut tree, &settings) {
+        Ok(found) => lists(alloc, &found),
+        Err(_) => Err(Fail::from("a limit or a fault")),
+    }
 }
 
 /// What a line says that is found.
