@@ -25,7 +25,7 @@ use Rattle.ct_find.specs.Rows.{Lists, AreListings, AreThere, IsInLists, IsMatche
 use Rattle.ct_find.specs.Sets.{AreSorted}
 use Rattle.ct_find.proofs.GroupLemmas.{group_paths, matched_group}
 use Rattle.ct_find.proofs.KindLemmas.{GroupsAre, headers_are, sources_are, tests_are}
-use Rattle.ct_find.proofs.Members.{contains_append, contains_first, contains_left, contains_more, contains_none, contains_right, map_contains}
+use Rattle.ct_find.proofs.Members.{contains_append, contains_first, contains_left, contains_more, contains_right, map_contains}
 use Rattle.ct_find.proofs.OrderLemmas.{places_split}
 use Rattle.ct_find.proofs.ReachLemmas.{ArePaths}
 use Rattle.ct_find.proofs.SetLemmas.{sorted_as}

@@ -1,6 +1,5 @@
 -- Each folder has a sorted list of the folders in it.
 use Rattle.std.proofs.Common.{◌≡◌, ℕ, ◌+◌, ◌<◌, ◌≤◌, ◌⊎◌, inl, inr, ◌↔◌, List, [], ◌∷◌, ◌++◌, Bool, true, false, Option, Some, None, IsSome, length, min, refl, sym, ap, subst, ◌∙◌, arith, length-append}
-use Rattle.std.specs.declared.cmp.Ordering.{Ordering}
 use Rattle.std.specs.declared.cmp.Ordering.TheVariants.{Less, Equal, Greater}
 use Rattle.std.specs.Ordering.{nat_cmp, is_eq, is_lt, match_ordering, ordering_reverse}
 use Rattle.std.specs.Cmp.{tied_itself}
@@ -14,7 +13,7 @@ use Rattle.std.proofs.lemmas.Bool.{false≢true}
 use Rattle.std.proofs.lemmas.Cmp.{nat_list_cmp_total}
 use Rattle.std.proofs.lemmas.List.{length-take}
 use Rattle.std.proofs.lemmas.Map.Text.{is_eq-slice_cmp}
-use Rattle.ct_outside.specs.Files.{EachOnce, Files, IsEntry, entry_at, is_slash, rest_below}
+use Rattle.ct_outside.specs.Files.{EachOnce, Files, entry_at, is_slash, rest_below}
 use Rattle.ct_outside.specs.declared.tree.Entry.{Entry}
 use Rattle.ct_find.specs.Order.{AreChildren, IsChild, inside}
 use Rattle.ct_find.specs.Sets.{AreSorted}

@@ -1,5 +1,5 @@
 -- The listing of folders.
-use Rattle.std.proofs.Common.{◌≡◌, ℕ, zero, suc, ◌+◌, ◌<◌, inl, inr, ◌↔◌, List, [], ◌∷◌, ◌++◌, true, false, Option, Some, Ok, Err, IfSome, length, get_or, take, refl, sym, ap, subst, ◌∙◌, arith}
+use Rattle.std.proofs.Common.{◌≡◌, ℕ, zero, suc, ◌+◌, ◌<◌, ◌↔◌, List, [], ◌∷◌, ◌++◌, true, false, Option, Some, Ok, Err, IfSome, length, get_or, take, refl, sym, ap, subst, ◌∙◌, arith}
 use Rattle.std.specs.Prelude.{String, string_bytes, slice_get}
 use Rattle.std.specs.declared.alloc.Global.{Global}
 use Rattle.std.specs.List.{Contains}
@@ -17,7 +17,7 @@ use Rattle.ct_find.specs.declared.rows.Row.{Row}
 use Rattle.ct_find.specs.Order.{inside}
 use Rattle.ct_find.specs.Rows.{IsChildOf, IsRowChild, ListsNext, VisitTells, is_child, texts_of}
 use Rattle.ct_find.specs.Sets.{AreSorted}
-use Rattle.ct_find.proofs.Members.{all_taken, contains_none, contains_taken}
+use Rattle.ct_find.proofs.Members.{all_taken, contains_none}
 use Rattle.ct_find.proofs.SetLemmas.{sorted_as}
 use Rattle.ct_find.proofs.StartLemmas.{collected, collected_none, some_taken, taken_some}
 use Rattle.ct_find.specs.Places.{IsFresh}
