@@ -1,11 +1,18 @@
 //! The meaning of core units.
 #![tactic(auto)]
 
+mod evaluator;
 mod laws;
+mod objects;
+mod phases;
+mod plain;
 mod program;
 mod rules;
 mod state;
+#[cfg(test)]
+mod tests;
 mod values;
 
 pub use laws::{any_numbers, nothing_is_given_back};
+pub use plain::plain;
 pub use state::{Ending, Place, Position, State, Stop, Where};
