@@ -1,3 +1,6 @@
 pub mod Related
 pub mod Spends
 pub mod Numbers
+pub mod Parts
+pub mod Goes
+pub mod Steps
