@@ -17,8 +17,10 @@ use Rattle.ct_meaning.specs.declared.state.Ending.{Ending}
 use Rattle.ct_meaning.specs.Doing.{Outcome, Does, onwards, ◌>>=◌, pure, finally}
 use Rattle.ct_meaning.specs.World.{World, Where, target_of}
 use Rattle.ct_meaning.specs.Rules.{value_from, stored_value, test_check, begun_test_by, stop, failed, given, changed, load, store, initialise, begin_objects, end_objects, without_objects, take_step, failed_at, can_begin, run_test, run_end, run_phase, run_call, in_test, without_test, caught}
-use Rattle.ct_meaning.specs.Meaning.{Calls, enter, expression, statement, body_of, calls}
-use Rattle.ct_meaning.proofs.Parts.{Holds, enter_holds, expression_holds, statement_holds, body_holds}
+use Rattle.ct_meaning.specs.Meaning.{Calls, enter, then_go, turns, expression, statement, calls}
+use Rattle.ct_meaning.proofs.Parts.{Holds, enter_holds, expression_holds, statement_holds, body_holds, turn_rest_holds}
+use Rattle.ct_meaning.specs.Program.{outermost}
+use Rattle.ct_meaning.specs.Written.{in_order}
 
 -- a relation of the state before and the state after, which follows each change that a part makes
 pub record Follows (R : State → State → Type 0) : Type 0 where
@@ -167,3 +169,15 @@ module _ (R : State → State → Type 0) (follows : Follows R) where
 
     pub statement_goes : (n i : ℕ) (b : CoreStatement) (h : Where) → Inner h.level → Goes R Ending (statement w n (calls w i) b h) (statement w n (calls w i) b h)
     statement_goes n i = statement_holds w Inner (Goes R) rules (calls w i) (calls w i) (λ k j. called_go i k) n
+
+    pub turn_goes : (i m n : ℕ) (e : CoreExpression) (b : CoreStatement) (h : Where) → Inner h.level → (s : State)
+        → R s (onwards (statement w m (calls w i) b h s) (λ flow. then_go flow (turns w h n (expression w (calls w i) e) (statement w m (calls w i) b)))).1
+    turn_goes i m n e b h l s =
+        turn_rest_holds w Inner (Goes R) rules (calls w i) (calls w i) (λ k j. called_go i k) n h (expression w (calls w i) e) (expression w (calls w i) e)
+        (statement w m (calls w i) b) (statement w m (calls w i) b) (expression_goes i e h l) (statement_goes m i b h l) s
+
+    -- calls one after another, from outside each function
+    pub in_order_goes : (i : ℕ) (numbers : List ℕ) → Goes R (Unit {0}) (in_order w (calls w i) numbers) (in_order w (calls w i) numbers)
+    in_order_goes i [] s = follows.same s
+    in_order_goes i (number ∷ numbers) s =
+        then_goes Value (Unit {0}) s (enter w outermost (calls w i) number [] s) (λ _. in_order w (calls w i) numbers) (called_go i outermost number [] s) (λ _ t. in_order_goes i numbers t)

@@ -4,3 +4,5 @@ pub mod Numbers
 pub mod Parts
 pub mod Goes
 pub mod Steps
+pub mod Levels
+pub mod Verdicts

@@ -182,7 +182,7 @@ module _ (w : World) (L : ℕ → Type 0) (G : (A : Type 0) → Does A → Does 
     go_holds Onward p q k = k
     go_holds (Returned x) p q k = rules.value Ending (Returned x)
 
-    pub turns_hold : (n : ℕ) (h : Where) (p q : Evaluates) (body body' : Executes) → G Value (p h) (q h) → G Ending (body h) (body' h)
+    turns_hold : (n : ℕ) (h : Where) (p q : Evaluates) (body body' : Executes) → G Value (p h) (q h) → G Ending (body h) (body' h)
         → G Ending (turns w h n p body) (turns w h n q body')
     turns_hold zero h p q body body' k j = rules.stops Ending h StepBudget
     turns_hold (suc n) h p q body body' k j =
@@ -194,6 +194,11 @@ module _ (w : World) (L : ℕ → Type 0) (G : (A : Type 0) → Does A → Does 
         → G Ending (within w h places p) (within w h places q)
     within_holds h l places p q k =
         rules.bind (List (ℕ × Pointer)) Ending _ _ _ _ (rules.begins h places h.frame) (λ frame. rules.ends (length places) frame _ _ (k (record h { frame = frame }) l))
+
+    -- a turn that has begun, and those after it
+    pub turn_rest_holds : (n : ℕ) (h : Where) (p q : Evaluates) (body body' : Executes) → G Value (p h) (q h) → G Ending (body h) (body' h)
+        → G Ending (body h >>= (λ flow. then_go flow (turns w h n p body))) (body' h >>= (λ flow. then_go flow (turns w h n q body')))
+    turn_rest_holds n h p q body body' k j = rules.bind Ending Ending _ _ _ _ j (λ flow. go_holds flow _ _ (turns_hold n h p q body body' k j))
 
     module _ (n : ℕ) where
       abbrev StatementHolds : CoreStatement → Type 0
