@@ -1,5 +1,5 @@
--- What each part of a program at level 1 or more does to the state, by steps that a relation of states follows.
-use Rattle.std.proofs.Common.{◌≡◌, ℕ, zero, suc, ◌+◌, ◌-◌, ◌<◌, ◌≤◌, List, [], ◌∷◌, Bool, true, false, ℤ, Option, Some, None, Result, Ok, Err, refl, sym, ap, subst, arith, nat_lt, ne_eqb}
+-- What each part of a program does to the state, where a relation of states follows each change that a rule makes.
+use Rattle.std.proofs.Common.{◌≡◌, ℕ, zero, suc, ◌+◌, ◌-◌, ◌<◌, ◌≤◌, List, [], ◌∷◌, Bool, true, false, ℤ, Option, Some, None, Result, Ok, Err, refl, sym, ap, subst, arith, nat_lt, eqb-true}
 use Rattle.std.specs.Prelude.{if◌then◌else◌, option_map, unsigned_abs, ◌&&◌, is_none, is_some, not, ◌==◌}
 use Rattle.ct_base.specs.declared.faults.FaultKind.{FaultKind}
 use Rattle.ct_base.specs.declared.faults.FaultKind.TheVariants.{StepBudget}
@@ -16,13 +16,14 @@ use Rattle.ct_meaning.specs.declared.state.State.{State}
 use Rattle.ct_meaning.specs.declared.state.Ending.{Ending}
 use Rattle.ct_meaning.specs.Doing.{Outcome, Does, onwards, ◌>>=◌, pure, finally}
 use Rattle.ct_meaning.specs.World.{World, Where, target_of}
-use Rattle.ct_meaning.specs.Rules.{value_from, stored_value, test_check, begun_test_by, stop, failed, given, changed, load, store, initialise, begin_objects, end_objects, without_objects, take_step, failed_at, can_begin, run_test, run_end, run_phase, run_call, in_test, without_test, caught}
+use Rattle.ct_meaning.specs.Rules.{value_from, stored_value, test_check, begun_test_by, stop, failed, given, changed, load, store, initialise, begin_objects, end_objects, without_objects, take_step, failed_at, can_begin, run_test, run_end, run_phase, run_call, in_test, with_test, without_test, caught}
 use Rattle.ct_meaning.specs.Meaning.{Calls, enter, then_go, turns, expression, statement, calls}
+use Rattle.ct_meaning.proofs.Spends.{first_true}
 use Rattle.ct_meaning.proofs.Parts.{Holds, enter_holds, expression_holds, statement_holds, body_holds, turn_rest_holds}
 use Rattle.ct_meaning.specs.Program.{outermost}
 use Rattle.ct_meaning.specs.Written.{in_order}
 
--- a relation of the state before and the state after, which follows each change that a part makes
+-- a relation of the state before and the state after, which follows each change that is made at every level
 pub record Follows (R : State → State → Type 0) : Type 0 where
   pub same : (s : State) → R s s
   pub joined : (s t u : State) → R s t → R t u → R s u
@@ -30,25 +31,31 @@ pub record Follows (R : State → State → Type 0) : Type 0 where
   pub step : (s : State) → R s (record s { steps = s.steps - 1 })
   pub fault : (w : World) (h : Where) (fault : FaultKind) (s : State) → R s (failed w h fault s)
   pub failure : (line : ℕ) (text : List ℕ) (s : State) → R s (record s { test = option_map (judged Fail line text) s.test })
+  pub aborted : (s : State) (b : Bool) → R s (record s { aborted = b })
+
+-- and which, at the levels of L, follows the begin and the end of a test
+pub record Tests (w : World) (L : ℕ → Type 0) (R : State → State → Type 0) : Type 0 where
+  pub deeper : (n : ℕ) → L (n + 1)
+  pub begins : (h : Where) → L h.level → (name : List ℕ) (line : ℕ) (s : State) → can_begin w h s ≡ true → R s (with_test w name line s)
+  pub ends : (h : Where) → L h.level → (s : State) → in_test h s ≡ true → R s (without_test s)
 
 abbrev pub Goes : (State → State → Type 0) → (A : Type 0) → Does A → Does A → Type 0
 Goes R A p q = (s : State) → R s (p s).1
 
--- a level of 1 or more
+-- ---- levels of 1 or more, at which no test begins or ends
+
 abbrev pub Inner : ℕ → Type 0
-Inner n = 0 < n
+Inner n = 1 ≤ n
 
--- the functions for the phases of a test do nothing there
-inner_level : (n : ℕ) → 0 < n → (n == 0) ≡ false
-inner_level n l = ne_eqb n 0 (λ e. omega (arith, e, l))
+inner_level : (n : ℕ) → 1 ≤ n → (n == 0) ≡ true → ⊥
+inner_level n l e = let zero_level : n ≡ 0 = eqb-true n 0 e in omega (arith, zero_level, l)
 
-not_both : (a b : Bool) → a ≡ false → (a && b) ≡ false
-not_both true b e = cc
-not_both false b e = refl
-
-not_all : (a b c : Bool) → a ≡ false → (a && b && c) ≡ false
-not_all true b c e = cc
-not_all false b c e = refl
+pub inner_tests : (w : World) (R : State → State → Type 0) → Tests w Inner R
+inner_tests w R = record {
+  deeper = λ n. omega arith;
+  begins = λ h l name line s e. absurd (inner_level h.level l (first_true (h.level == 0) (is_none s.test) (first_true (h.level == 0 && is_none s.test) (nat_lt s.begun 1000) e)));
+  ends = λ h l s e. absurd (inner_level h.level l (first_true (h.level == 0) (is_some s.test) e));
+}
 
 module _ (R : State → State → Type 0) (follows : Follows R) where
   then_goes : (A B : Type 0) (s : State) (o : Outcome A) (k : A → Does B) → R s o.1 → ((a : A) (t : State) → R t (k a t).1) → R s (onwards o k).1
@@ -103,81 +110,92 @@ module _ (R : State → State → Type 0) (follows : Follows R) where
     fails_go line None s = follows.same s
     fails_go line (Some text) s = follows.failure (unsigned_abs line) text s
 
-    unless : (s t : State) (b : Bool) → b ≡ false → R s (if b then t else s)
-    unless s t true e = cc
-    unless s t false e = follows.same s
+    phase_at : (b : Bool) (s : State) → R s (if b then record s { aborted = false } else s)
+    phase_at true s = follows.aborted s false
+    phase_at false s = follows.same s
 
-    unless_outcome : (s : State) (b : Bool) (o : Outcome Value) → b ≡ false → R s (if b then o else (Some Void, s)).1
-    unless_outcome s true o e = cc
-    unless_outcome s false o e = follows.same s
-
-    tests_go : (h : Where) → Inner h.level → (values : List Value) → Goes R Value (run_test w h values) (run_test w h values)
-    unfolding run_test
-    tests_go h l values s =
-        unless_outcome s (can_begin w h s) (begun_test_by w h s (test_check values s.memory)) (not_all (h.level == 0) (is_none s.test) (nat_lt s.begun 1000) (inner_level h.level l))
-
-    not_in_test : (h : Where) (s : State) → Inner h.level → in_test h s ≡ false
-    not_in_test h s l = not_both (h.level == 0) (is_some s.test) (inner_level h.level l)
-
-    test_ends_go : (h : Where) → Inner h.level → Goes R Value (run_end h) (run_end h)
-    unfolding run_end
-    test_ends_go h l s = unless s (without_test s) (in_test h s) (not_in_test h s l)
-
-    phases_go : (h : Where) → Inner h.level → Goes R Value (run_phase h) (run_phase h)
+    phases_go : (h : Where) → Goes R Value (run_phase h) (run_phase h)
     unfolding run_phase
-    phases_go h l s = unless s (record s { aborted = false }) (in_test h s) (not_in_test h s l)
+    phases_go h s = phase_at (in_test h s) s
 
-    phase_calls_go : (h : Where) → Inner h.level → (p q : Does Value) → Goes R Value p q → Goes R Value (run_call h p) (run_call h q)
+    caught_goes : (s : State) (o : Outcome Value) → R s o.1 → R s (caught o).1
+    caught_goes s (Some a, t) k = k
+    caught_goes s (None, t) k = follows.joined s t _ k (follows.aborted t true)
+
+    phase_calls_go : (h : Where) (p q : Does Value) → Goes R Value p q → Goes R Value (run_call h p) (run_call h q)
     unfolding run_call
-    phase_calls_go h l p q k s = unless_outcome s (in_test h s && not s.aborted) (caught (p s)) (not_both (in_test h s) (not s.aborted) (not_in_test h s l))
+    phase_calls_go h p q k s = if_goes Value s (in_test h s && not s.aborted) (caught (p s)) (Some Void, s) (caught_goes s (p s) (k s)) (follows.same s)
 
-    rules : Holds w Inner (Goes R)
-    rules = record {
-      value = λ A a s. follows.same s;
-      bind = bind_goes;
-      ends = ends_go;
-      stops = λ A h fault s. follows.fault w h fault s;
-      loads = loads_go;
-      stores = stores_go;
-      initialises = initialises_go;
-      begins = begins_go;
-      steps = steps_go;
-      fails = fails_go;
-      tests = tests_go;
-      test_ends = test_ends_go;
-      phases = phases_go;
-      phase_calls = phase_calls_go;
-    }
+    module _ (L : ℕ → Type 0) (at : Tests w L R) where
+      begun_goes : (h : Where) → L h.level → (s : State) (r : Result (List ℕ × ℤ) FaultKind) → can_begin w h s ≡ true → R s (begun_test_by w h s r).1
+      unfolding begun_test_by
+      begun_goes h l s (Ok test) e = at.begins h l test.0 (unsigned_abs test.1) s e
+      begun_goes h l s (Err fault) e = follows.fault w h fault s
 
-    -- a call, whatever the level is from which it is made
-    pub enter_goes : (f : Calls) → ((number : ℕ) (values : List Value) (h : Where) → Inner h.level → Goes R Ending (f number values h) (f number values h))
-        → (h : Where) (number : ℕ) (values : List Value) → Goes R Value (enter w h f number values) (enter w h f number values)
-    enter_goes f k h number values =
-        enter_holds w Inner (Goes R) rules f f h number values (k number values (record h { level = h.level + 1; frame = [] }) (omega arith))
+      test_at : (b : Bool) (h : Where) → L h.level → (s : State) (r : Result (List ℕ × ℤ) FaultKind) → can_begin w h s ≡ b
+          → R s (if b then begun_test_by w h s r else (Some Void, s)).1
+      test_at true h l s r e = begun_goes h l s r e
+      test_at false h l s r e = follows.same s
 
-    pub calls_go : (i number : ℕ) (values : List Value) (h : Where) → Inner h.level → Goes R Ending (calls w i number values h) (calls w i number values h)
-    unfolding calls
-    calls_go zero number values h l s = follows.fault w h StepBudget s
-    calls_go (suc i) number values h l s =
-        body_holds w Inner (Goes R) rules (calls w i) (calls w i) (λ k j. enter_goes (calls w i) (calls_go i) k) i (target_of w number) values h l s
+      tests_go : (h : Where) → L h.level → (values : List Value) → Goes R Value (run_test w h values) (run_test w h values)
+      unfolding run_test
+      tests_go h l values s = test_at (can_begin w h s) h l s (test_check values s.memory) refl
 
-    pub called_go : (i : ℕ) (h : Where) (number : ℕ) (values : List Value) → Goes R Value (enter w h (calls w i) number values) (enter w h (calls w i) number values)
-    called_go i = enter_goes (calls w i) (calls_go i)
+      end_at : (b : Bool) (h : Where) → L h.level → (s : State) → in_test h s ≡ b → R s (if b then without_test s else s)
+      end_at true h l s e = at.ends h l s e
+      end_at false h l s e = follows.same s
 
-    pub expression_goes : (i : ℕ) (e : CoreExpression) (h : Where) → Inner h.level → Goes R Value (expression w (calls w i) e h) (expression w (calls w i) e h)
-    expression_goes i = expression_holds w Inner (Goes R) rules (calls w i) (calls w i) (λ k j. called_go i k)
+      test_ends_go : (h : Where) → L h.level → Goes R Value (run_end h) (run_end h)
+      unfolding run_end
+      test_ends_go h l s = end_at (in_test h s) h l s refl
 
-    pub statement_goes : (n i : ℕ) (b : CoreStatement) (h : Where) → Inner h.level → Goes R Ending (statement w n (calls w i) b h) (statement w n (calls w i) b h)
-    statement_goes n i = statement_holds w Inner (Goes R) rules (calls w i) (calls w i) (λ k j. called_go i k) n
+      rules : Holds w L (Goes R)
+      rules = record {
+        value = λ A a s. follows.same s;
+        bind = bind_goes;
+        ends = ends_go;
+        stops = λ A h fault s. follows.fault w h fault s;
+        loads = loads_go;
+        stores = stores_go;
+        initialises = initialises_go;
+        begins = begins_go;
+        steps = steps_go;
+        fails = fails_go;
+        tests = tests_go;
+        test_ends = test_ends_go;
+        phases = λ h l. phases_go h;
+        phase_calls = λ h l. phase_calls_go h;
+      }
 
-    pub turn_goes : (i m n : ℕ) (e : CoreExpression) (b : CoreStatement) (h : Where) → Inner h.level → (s : State)
-        → R s (onwards (statement w m (calls w i) b h s) (λ flow. then_go flow (turns w h n (expression w (calls w i) e) (statement w m (calls w i) b)))).1
-    turn_goes i m n e b h l s =
-        turn_rest_holds w Inner (Goes R) rules (calls w i) (calls w i) (λ k j. called_go i k) n h (expression w (calls w i) e) (expression w (calls w i) e)
-        (statement w m (calls w i) b) (statement w m (calls w i) b) (expression_goes i e h l) (statement_goes m i b h l) s
+      -- a call, whatever the level is from which it is made
+      pub enter_goes : (f : Calls) → ((number : ℕ) (values : List Value) (h : Where) → L h.level → Goes R Ending (f number values h) (f number values h))
+          → (h : Where) (number : ℕ) (values : List Value) → Goes R Value (enter w h f number values) (enter w h f number values)
+      enter_goes f k h number values =
+          enter_holds w L (Goes R) rules f f h number values (k number values (record h { level = h.level + 1; frame = [] }) (at.deeper h.level))
 
-    -- calls one after another, from outside each function
-    pub in_order_goes : (i : ℕ) (numbers : List ℕ) → Goes R (Unit {0}) (in_order w (calls w i) numbers) (in_order w (calls w i) numbers)
-    in_order_goes i [] s = follows.same s
-    in_order_goes i (number ∷ numbers) s =
-        then_goes Value (Unit {0}) s (enter w outermost (calls w i) number [] s) (λ _. in_order w (calls w i) numbers) (called_go i outermost number [] s) (λ _ t. in_order_goes i numbers t)
+      pub calls_go : (i number : ℕ) (values : List Value) (h : Where) → L h.level → Goes R Ending (calls w i number values h) (calls w i number values h)
+      unfolding calls
+      calls_go zero number values h l s = follows.fault w h StepBudget s
+      calls_go (suc i) number values h l s =
+          body_holds w L (Goes R) rules (calls w i) (calls w i) (λ k j. enter_goes (calls w i) (calls_go i) k) i (target_of w number) values h l s
+
+      pub called_go : (i : ℕ) (h : Where) (number : ℕ) (values : List Value) → Goes R Value (enter w h (calls w i) number values) (enter w h (calls w i) number values)
+      called_go i = enter_goes (calls w i) (calls_go i)
+
+      pub expression_goes : (i : ℕ) (e : CoreExpression) (h : Where) → L h.level → Goes R Value (expression w (calls w i) e h) (expression w (calls w i) e h)
+      expression_goes i = expression_holds w L (Goes R) rules (calls w i) (calls w i) (λ k j. called_go i k)
+
+      pub statement_goes : (n i : ℕ) (b : CoreStatement) (h : Where) → L h.level → Goes R Ending (statement w n (calls w i) b h) (statement w n (calls w i) b h)
+      statement_goes n i = statement_holds w L (Goes R) rules (calls w i) (calls w i) (λ k j. called_go i k) n
+
+      pub turn_goes : (i m n : ℕ) (e : CoreExpression) (b : CoreStatement) (h : Where) → L h.level → (s : State)
+          → R s (onwards (statement w m (calls w i) b h s) (λ flow. then_go flow (turns w h n (expression w (calls w i) e) (statement w m (calls w i) b)))).1
+      turn_goes i m n e b h l s =
+          turn_rest_holds w L (Goes R) rules (calls w i) (calls w i) (λ k j. called_go i k) n h (expression w (calls w i) e) (expression w (calls w i) e)
+          (statement w m (calls w i) b) (statement w m (calls w i) b) (expression_goes i e h l) (statement_goes m i b h l) s
+
+      -- calls one after another, from outside each function
+      pub in_order_goes : (i : ℕ) (numbers : List ℕ) → Goes R (Unit {0}) (in_order w (calls w i) numbers) (in_order w (calls w i) numbers)
+      in_order_goes i [] s = follows.same s
+      in_order_goes i (number ∷ numbers) s =
+          then_goes Value (Unit {0}) s (enter w outermost (calls w i) number [] s) (λ _. in_order w (calls w i) numbers) (called_go i outermost number [] s) (λ _ t. in_order_goes i numbers t)

@@ -3,6 +3,7 @@ pub mod Spends
 pub mod Numbers
 pub mod Parts
 pub mod Goes
+pub mod During
 pub mod Steps
 pub mod Levels
 pub mod Verdicts

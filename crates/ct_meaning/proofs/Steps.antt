@@ -13,7 +13,9 @@ use Rattle.ct_meaning.specs.World.{World, Where}
 use Rattle.ct_meaning.specs.Rules.{stop, failed, check_level, take_step, with_test}
 use Rattle.ct_meaning.specs.Meaning.{Calls, value_of, enter, Evaluates, Executes, then_go, holds, turns, expression, statement, calls}
 use Rattle.ct_meaning.specs.Written.{Test, in_order, phase, phases_state}
-use Rattle.ct_meaning.proofs.Goes.{Follows, Goes, calls_go, called_go, expression_goes, statement_goes, in_order_goes, turn_goes}
+use Rattle.ct_meaning.specs.Laws.{SameTest}
+use Rattle.ct_meaning.proofs.During.{statements_go}
+use Rattle.ct_meaning.proofs.Goes.{Follows, Inner, inner_tests, Goes, calls_go, called_go, expression_goes, statement_goes, in_order_goes, turn_goes}
 
 abbrev pub Fewer : State → State → Type 0
 Fewer s t = t.steps ≤ s.steps
@@ -27,22 +29,27 @@ fewer = record {
   step = λ s. omega arith;
   fault = λ w h fault s. omega arith;
   failure = λ line text s. omega arith;
+  aborted = λ s b. omega arith;
 }
 
 pub calls_fall : (w : World) (i number : ℕ) (values : List Value) (h : Where) (s : State) → 1 ≤ h.level → (calls w i number values h s).1.steps ≤ s.steps
-calls_fall w i number values h s l = calls_go Fewer fewer w i number values h l s
+calls_fall w i number values h s l = calls_go Fewer fewer w Inner (inner_tests w Fewer) i number values h l s
 
 pub enters_fall : (w : World) (i number : ℕ) (values : List Value) (h : Where) (s : State) → (enter w h (calls w i) number values s).1.steps ≤ s.steps
-enters_fall w i number values h s = called_go Fewer fewer w i h number values s
+enters_fall w i number values h s = called_go Fewer fewer w Inner (inner_tests w Fewer) i h number values s
 
 pub expressions_fall : (w : World) (i : ℕ) (e : CoreExpression) (h : Where) (s : State) → 1 ≤ h.level → (expression w (calls w i) e h s).1.steps ≤ s.steps
-expressions_fall w i e h s l = expression_goes Fewer fewer w i e h l s
+expressions_fall w i e h s l = expression_goes Fewer fewer w Inner (inner_tests w Fewer) i e h l s
 
 pub statements_fall : (w : World) (n i : ℕ) (b : CoreStatement) (h : Where) (s : State) → 1 ≤ h.level → (statement w n (calls w i) b h s).1.steps ≤ s.steps
-statements_fall w n i b h s l = statement_goes Fewer fewer w n i b h l s
+statements_fall w n i b h s l = statement_goes Fewer fewer w Inner (inner_tests w Fewer) n i b h l s
+
+pub same_test_falls : (w : World) (n i : ℕ) (b : CoreStatement) (h : Where) (s : State) → SameTest s (statement w n (calls w i) b h s).1
+    → (statement w n (calls w i) b h s).1.steps ≤ s.steps
+same_test_falls = statements_go Fewer fewer
 
 phases_fall_at : (w : World) (i : ℕ) (numbers : List ℕ) → Goes Fewer (Unit {0}) (in_order w (calls w i) numbers) (in_order w (calls w i) numbers)
-phases_fall_at w i = in_order_goes Fewer fewer w i
+phases_fall_at w i = in_order_goes Fewer fewer w Inner (inner_tests w Fewer) i
 
 -- what is left when the phases of a test are through
 pub test_falls : (w : World) (i set_up tear_down : ℕ) (test : Test) (s : State) → (phases_state w (calls w i) set_up tear_down test s).steps ≤ w.budget
@@ -129,5 +136,5 @@ module _ (w : World) where
   turn_lowers m n i e b h s t l is some =
       let begun = record t { steps = t.steps - 1 } in
       let step = ap (λ (o : Outcome Ending). o.1.steps) (turn_takes n (expression w (calls w i) e) (statement w m (calls w i) b) h s t is some) in
-      let less = turn_goes Fewer fewer w i m n e b h l begun in
+      let less = turn_goes Fewer fewer w Inner (inner_tests w Fewer) i m n e b h l begun in
       omega (arith, step, less, some)

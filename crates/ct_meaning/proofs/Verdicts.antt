@@ -15,8 +15,9 @@ use Rattle.ct_meaning.specs.World.{World, Where}
 use Rattle.ct_meaning.specs.Rules.{failed, failed_test}
 use Rattle.ct_meaning.specs.Meaning.{enter, expression, statement, calls}
 use Rattle.ct_meaning.specs.Written.{phase}
-use Rattle.ct_meaning.specs.Laws.{verdict_of}
-use Rattle.ct_meaning.proofs.Goes.{Follows, calls_go, expression_goes, statement_goes, in_order_goes}
+use Rattle.ct_meaning.specs.Laws.{SameTest, verdict_of}
+use Rattle.ct_meaning.proofs.During.{statements_go}
+use Rattle.ct_meaning.proofs.Goes.{Follows, Inner, inner_tests, calls_go, expression_goes, statement_goes, in_order_goes}
 
 abbrev Judgement : Type 0
 Judgement = Verdict × ℕ × List ℕ
@@ -50,21 +51,26 @@ stays = record {
   memory = λ s m v e. e;
   step = λ s v e. e;
   fault = λ w h fault s v e. mapped_stays (failed_test w h.place fault) s.test v (λ test d. faulted_stays w h.place fault test v d) e;
+  aborted = λ s b v e. e;
   failure = λ line text s v e. mapped_stays (judged Fail line text) s.test v (λ test d. judged_stays line text test v d) e;
 }
 
 pub calls_stay : (w : World) (i number : ℕ) (values : List Value) (h : Where) (s : State) (v : Verdict × ℕ × List ℕ) → 1 ≤ h.level
     → verdict_of s.test ≡ Some v → verdict_of (calls w i number values h s).1.test ≡ Some v
-calls_stay w i number values h s v l e = calls_go Stays stays w i number values h l s v e
+calls_stay w i number values h s v l e = calls_go Stays stays w Inner (inner_tests w Stays) i number values h l s v e
 
 pub statements_stay : (w : World) (n i : ℕ) (b : CoreStatement) (h : Where) (s : State) (v : Verdict × ℕ × List ℕ) → 1 ≤ h.level
     → verdict_of s.test ≡ Some v → verdict_of (statement w n (calls w i) b h s).1.test ≡ Some v
-statements_stay w n i b h s v l e = statement_goes Stays stays w n i b h l s v e
+statements_stay w n i b h s v l e = statement_goes Stays stays w Inner (inner_tests w Stays) n i b h l s v e
 
 pub expressions_stay : (w : World) (i : ℕ) (b : CoreExpression) (h : Where) (s : State) (v : Verdict × ℕ × List ℕ) → 1 ≤ h.level
     → verdict_of s.test ≡ Some v → verdict_of (expression w (calls w i) b h s).1.test ≡ Some v
-expressions_stay w i b h s v l e = expression_goes Stays stays w i b h l s v e
+expressions_stay w i b h s v l e = expression_goes Stays stays w Inner (inner_tests w Stays) i b h l s v e
+
+pub same_test_stays : (w : World) (n i : ℕ) (b : CoreStatement) (h : Where) (s : State) (v : Verdict × ℕ × List ℕ) → SameTest s (statement w n (calls w i) b h s).1
+    → verdict_of s.test ≡ Some v → verdict_of (statement w n (calls w i) b h s).1.test ≡ Some v
+same_test_stays w n i b h s v e d = statements_go Stays stays w n i b h s e v d
 
 pub phases_stay : (w : World) (i : ℕ) (numbers : List ℕ) (s : State) (v : Verdict × ℕ × List ℕ)
     → verdict_of s.test ≡ Some v → verdict_of (phase w (calls w i) numbers s).test ≡ Some v
-phases_stay w i numbers s v e = in_order_goes Stays stays w i numbers s v e
+phases_stay w i numbers s v e = in_order_goes Stays stays w Inner (inner_tests w Stays) i numbers s v e

@@ -13,7 +13,7 @@ ghost use Rattle.ct_meaning.specs.Rules.{failed, with_test};
 ghost use Rattle.ct_meaning.specs.Meaning.{Calls, Evaluates, Executes, body_of, calls, enter, expression, holds, statement, then_go, turns};
 ghost use Rattle.ct_meaning.specs.Program.{left_in};
 ghost use Rattle.ct_meaning.specs.Written.{Test, phase, phases_state};
-ghost use Rattle.ct_meaning.specs.Laws.{SameCalls, verdict_of};
+ghost use Rattle.ct_meaning.specs.Laws.{SameCalls, SameTest, verdict_of};
 
 /// Any two numbers that are above what is left by more than one give calls the same meaning: the
 /// number that ends the recursion is never seen.
@@ -26,12 +26,14 @@ pub fn nothing_is_given_back()
     ensures { (w : World) (i number : ℕ) (values : List Value) (h : Where) (s : State) → left_in w.budget s + 1 < i → left_in w.budget (calls w i number values h s).1 ≤ left_in w.budget s }
 {}
 
-/// While a test runs, no part of the program raises the steps that are left: tests begin and end
-/// at level 0 alone.
+/// At level 1 or more no part of the program raises the steps that are left, and at level 0 none
+/// does while one and the same test runs.
 pub fn steps_only_fall()
     ensures functions { (w : World) (i number : ℕ) (values : List Value) (h : Where) (s : State) → 1 ≤ h.level → (calls w i number values h s).1.steps ≤ s.steps }
     ensures statements { (w : World) (n i : ℕ) (b : CoreStatement) (h : Where) (s : State) → 1 ≤ h.level → (statement w n (calls w i) b h s).1.steps ≤ s.steps }
     ensures expressions { (w : World) (i : ℕ) (e : CoreExpression) (h : Where) (s : State) → 1 ≤ h.level → (expression w (calls w i) e h s).1.steps ≤ s.steps }
+    ensures same_test { (w : World) (n i : ℕ) (b : CoreStatement) (h : Where) (s : State) → SameTest s (statement w n (calls w i) b h s).1
+        → (statement w n (calls w i) b h s).1.steps ≤ s.steps }
 {}
 
 /// A call takes one step before its function begins, one level deeper, and none of its steps comes
@@ -75,8 +77,8 @@ pub fn no_deeper_calls()
         → body_of w n f target values h s ≡ body_of w n g target values h s }
 {}
 
-/// While a test runs, the verdict that it has stays, with its line and text, whatever comes after:
-/// parts of the program, or whole phases of the test.
+/// The verdict that a test has stays, with its line and text, whatever comes after: parts of the
+/// program at level 1 or more, at level 0 while the same test runs, or whole phases of the test.
 pub fn a_first_failure_stays()
     ensures functions { (w : World) (i number : ℕ) (values : List Value) (h : Where) (s : State) (v : Verdict × ℕ × List ℕ) → 1 ≤ h.level
         → verdict_of s.test ≡ Some v → verdict_of (calls w i number values h s).1.test ≡ Some v }
@@ -84,6 +86,8 @@ pub fn a_first_failure_stays()
         → verdict_of s.test ≡ Some v → verdict_of (statement w n (calls w i) b h s).1.test ≡ Some v }
     ensures expressions { (w : World) (i : ℕ) (e : CoreExpression) (h : Where) (s : State) (v : Verdict × ℕ × List ℕ) → 1 ≤ h.level
         → verdict_of s.test ≡ Some v → verdict_of (expression w (calls w i) e h s).1.test ≡ Some v }
+    ensures same_test { (w : World) (n i : ℕ) (b : CoreStatement) (h : Where) (s : State) (v : Verdict × ℕ × List ℕ)
+        → SameTest s (statement w n (calls w i) b h s).1 → verdict_of s.test ≡ Some v → verdict_of (statement w n (calls w i) b h s).1.test ≡ Some v }
     ensures phases { (w : World) (i : ℕ) (numbers : List ℕ) (s : State) (v : Verdict × ℕ × List ℕ)
         → verdict_of s.test ≡ Some v → verdict_of (phase w (calls w i) numbers s).test ≡ Some v }
 {}

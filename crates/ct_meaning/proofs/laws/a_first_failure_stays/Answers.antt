@@ -12,3 +12,6 @@ returns-clause-expressions c = lemmas.expressions_stay
 
 pub returns-clause-phases : goal.returns-clause-phases
 returns-clause-phases c = lemmas.phases_stay
+
+pub returns-clause-same_test : goal.returns-clause-same_test
+returns-clause-same_test c = lemmas.same_test_stays

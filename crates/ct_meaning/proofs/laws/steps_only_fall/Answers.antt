@@ -9,3 +9,6 @@ returns-clause-statements c = lemmas.statements_fall
 
 pub returns-clause-expressions : goal.returns-clause-expressions
 returns-clause-expressions c = lemmas.expressions_fall
+
+pub returns-clause-same_test : goal.returns-clause-same_test
+returns-clause-same_test c = lemmas.same_test_falls
