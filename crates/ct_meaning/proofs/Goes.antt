@@ -1,5 +1,5 @@
 -- What each part of a program does to the state, where a relation of states follows each change that a rule makes.
-use Rattle.std.proofs.Common.{◌≡◌, ℕ, zero, suc, ◌+◌, ◌-◌, ◌<◌, ◌≤◌, List, [], ◌∷◌, Bool, true, false, ℤ, Option, Some, None, Result, Ok, Err, refl, sym, ap, subst, arith, nat_lt, eqb-true}
+use Rattle.std.proofs.Common.{◌≡◌, ℕ, zero, suc, ◌+◌, ◌-◌, ◌≤◌, List, [], ◌∷◌, Bool, true, false, ℤ, Option, Some, None, Result, Ok, Err, refl, arith, nat_lt, eqb-true}
 use Rattle.std.specs.Prelude.{if◌then◌else◌, option_map, unsigned_abs, ◌&&◌, is_none, is_some, not, ◌==◌}
 use Rattle.ct_base.specs.declared.faults.FaultKind.{FaultKind}
 use Rattle.ct_base.specs.declared.faults.FaultKind.TheVariants.{StepBudget}
@@ -14,9 +14,9 @@ use Rattle.ct_core.specs.Memory.{Memory}
 use Rattle.ct_core.specs.Testing.{judged}
 use Rattle.ct_meaning.specs.declared.state.State.{State}
 use Rattle.ct_meaning.specs.declared.state.Ending.{Ending}
-use Rattle.ct_meaning.specs.Doing.{Outcome, Does, onwards, ◌>>=◌, pure, finally}
+use Rattle.ct_meaning.specs.Doing.{Outcome, Does, onwards, ◌>>=◌, finally}
 use Rattle.ct_meaning.specs.World.{World, Where, target_of}
-use Rattle.ct_meaning.specs.Rules.{value_from, stored_value, test_check, begun_test_by, stop, failed, given, changed, load, store, initialise, begin_objects, end_objects, without_objects, take_step, failed_at, can_begin, run_test, run_end, run_phase, run_call, in_test, with_test, without_test, caught}
+use Rattle.ct_meaning.specs.Rules.{value_from, stored_value, test_check, begun_test_by, stop, failed, given, changed, load, store, initialise, begin_objects, end_objects, take_step, failed_at, can_begin, run_test, run_end, run_phase, run_call, in_test, with_test, without_test, caught}
 use Rattle.ct_meaning.specs.Meaning.{Calls, enter, then_go, turns, expression, statement, calls}
 use Rattle.ct_meaning.proofs.Spends.{first_true}
 use Rattle.ct_meaning.proofs.Parts.{Holds, enter_holds, expression_holds, statement_holds, body_holds, turn_rest_holds}

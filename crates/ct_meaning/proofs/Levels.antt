@@ -1,5 +1,5 @@
 -- No call is made at a level above 64.
-use Rattle.std.proofs.Common.{◌≡◌, ℕ, suc, ◌+◌, ◌<◌, ◌≤◌, List, [], ◌∷◌, Bool, true, false, Option, Some, None, refl, sym, ap, subst, ◌∙◌, arith, nat_lt, ltb-true, ltb-false}
+use Rattle.std.proofs.Common.{◌≡◌, ℕ, ◌+◌, ◌<◌, ◌≤◌, List, [], Bool, true, false, Option, Some, None, refl, sym, ap, ◌∙◌, arith, nat_lt, ltb-true, ltb-false}
 use Rattle.std.specs.Prelude.{if◌then◌else◌, ◌&&◌, not}
 use Rattle.ct_core.specs.declared.values.Value.{Value}
 use Rattle.ct_core.specs.declared.values.Value.TheVariants.{Void}
@@ -8,7 +8,7 @@ use Rattle.ct_core.specs.declared.trees.CoreExpression.{CoreExpression}
 use Rattle.ct_core.specs.declared.trees.CoreStatement.{CoreStatement}
 use Rattle.ct_meaning.specs.declared.state.State.{State}
 use Rattle.ct_meaning.specs.declared.state.Ending.{Ending}
-use Rattle.ct_meaning.specs.Doing.{Outcome, Does, onwards, ◌>>=◌, pure, finally}
+use Rattle.ct_meaning.specs.Doing.{Outcome, Does, onwards, ◌>>=◌, finally}
 use Rattle.ct_meaning.specs.World.{World, Where, Target}
 use Rattle.ct_meaning.specs.Rules.{failed, end_objects, run_call, in_test, caught}
 use Rattle.ct_base.specs.declared.faults.FaultKind.TheVariants.{CallDepth}

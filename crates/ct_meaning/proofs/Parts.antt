@@ -1,6 +1,6 @@
 -- What goes on through `>>=` and holds of the rules, holds of each part of a program: an induction over trees, for two answers
 -- of calls side by side. G says what is to hold of what a part does under the one answer and under the other.
-use Rattle.std.proofs.Common.{◌≡◌, ℕ, zero, suc, ◌+◌, ◌<◌, List, [], ◌∷◌, ◌++◌, map, Bool, true, false, ℤ, Option, Some, None, Result, Ok, Err, refl, sym, subst, length, nat_lt}
+use Rattle.std.proofs.Common.{ℕ, zero, suc, ◌+◌, List, [], ◌∷◌, ◌++◌, map, Bool, true, false, ℤ, Option, Some, None, Result, Ok, Err, sym, subst, length, nat_lt}
 use Rattle.std.specs.Prelude.{if◌then◌else◌, option_map}
 use Rattle.ct_base.specs.declared.faults.FaultKind.{FaultKind}
 use Rattle.ct_base.specs.declared.faults.FaultKind.TheVariants.{StepBudget, CallDepth, BadCall, NullPointer, MissingReturn}
@@ -18,13 +18,12 @@ use Rattle.ct_core.specs.declared.trees.CoreStatement.{CoreStatement, roll-CoreS
 use Rattle.ct_core.specs.declared.trees.CoreStatement.TheOpen.{CoreStatement-F}
 use Rattle.ct_core.specs.declared.values.Space.{Space}
 use Rattle.ct_core.specs.declared.values.Space.TheVariants.{Project, Tool}
-use Rattle.ct_meaning.specs.declared.state.State.{State}
 use Rattle.ct_meaning.specs.declared.state.Ending.{Ending}
 use Rattle.ct_meaning.specs.declared.state.Ending.TheVariants.{Onward, Returned}
 use Rattle.ct_meaning.specs.Doing.{Does, ◌>>=◌, ◌>>◌, pure, each_onto, finally}
 use Rattle.ct_meaning.specs.World.{World, Where, Target, Row, Empty, Outside, Defined, Given, target_of, unit_space, variable_at}
-use Rattle.ct_meaning.specs.Rules.{stop, given, used, truth_in, apply_binary, apply_conversion, variable, literal, designator, load, store, initialise, begin_objects, end_objects, check_level, level_limit, take_step, begun, begun_in, argument, equal_check, failed_at, assert_equal_int, run_test, run_end, run_phase, run_call}
-use Rattle.ct_meaning.specs.Meaning.{Calls, value_of, enter, call_target, call_value, procedure, handed_call, built_in, apply_call, Evaluates, used_value, expression_step, expression, Executes, then_go, in_turn, within, holds, turns, declare, return_of, otherwise, statement_step, statement, places_from, scalar_of_variable, initialise_parameter, initialise_parameters, defined_body, row_body, body_of}
+use Rattle.ct_meaning.specs.Rules.{stop, given, used, truth_in, variable, literal, designator, load, store, initialise, begin_objects, end_objects, check_level, level_limit, take_step, begun, begun_in, argument, equal_check, failed_at, assert_equal_int, run_test, run_end, run_phase, run_call}
+use Rattle.ct_meaning.specs.Meaning.{Calls, value_of, enter, call_target, call_value, procedure, handed_call, built_in, apply_call, Evaluates, used_value, expression_step, expression, Executes, then_go, in_turn, within, holds, turns, declare, return_of, statement_step, statement, places_from, scalar_of_variable, initialise_parameter, initialise_parameters, defined_body, row_body, body_of}
 
 -- what each rule has, at the levels of L
 pub record Holds (w : World) (L : ℕ → Type 0) (G : (A : Type 0) → Does A → Does A → Type 0) : Type 1 where

@@ -13,7 +13,7 @@ use Rattle.ct_meaning.specs.declared.state.State.{State}
 use Rattle.ct_meaning.specs.declared.state.Place.{Place}
 use Rattle.ct_meaning.specs.World.{World, Where}
 use Rattle.ct_meaning.specs.Rules.{failed, failed_test}
-use Rattle.ct_meaning.specs.Meaning.{enter, expression, statement, calls}
+use Rattle.ct_meaning.specs.Meaning.{expression, statement, calls}
 use Rattle.ct_meaning.specs.Written.{phase}
 use Rattle.ct_meaning.specs.Laws.{SameTest, verdict_of}
 use Rattle.ct_meaning.proofs.During.{statements_go}
