@@ -57,7 +57,7 @@ test_falls w i set_up tear_down test s =
     let begins = with_test w test.name test.line s in
     let first : (phase w (calls w i) (set_up ∷ test.number ∷ []) begins).steps ≤ w.budget = phases_fall_at w i (set_up ∷ test.number ∷ []) begins in
     let last : (phases_state w (calls w i) set_up tear_down test s).steps ≤ (phase w (calls w i) (set_up ∷ test.number ∷ []) begins).steps =
-        phases_fall_at w i (tear_down ∷ []) (phase w (calls w i) (set_up ∷ test.number ∷ []) begins) in
+    phases_fall_at w i (tear_down ∷ []) (phase w (calls w i) (set_up ∷ test.number ∷ []) begins) in
     omega (arith, first, last)
 
 -- ---- what takes a step

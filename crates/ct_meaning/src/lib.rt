@@ -13,6 +13,9 @@ mod state;
 mod tests;
 mod values;
 
-pub use laws::{any_numbers, nothing_is_given_back};
+pub use laws::{
+    a_call_takes_a_step, a_first_failure_stays, a_test_takes_at_most_the_budget,
+    a_turn_takes_a_step, any_numbers, no_deeper_calls, nothing_is_given_back, steps_only_fall,
+};
 pub use plain::plain;
 pub use state::{Ending, Place, Position, State, Stop, Where};
