@@ -5,9 +5,9 @@ mod evaluator;
 mod laws;
 mod objects;
 mod phases;
-mod plain;
 mod program;
 mod rules;
+mod run;
 mod state;
 #[cfg(test)]
 mod tests;
@@ -17,5 +17,5 @@ pub use laws::{
     a_call_takes_a_step, a_first_failure_stays, a_test_takes_at_most_the_budget,
     a_turn_takes_a_step, any_numbers, no_deeper_calls, nothing_is_given_back, steps_only_fall,
 };
-pub use plain::plain;
+pub use run::plain;
 pub use state::{Ending, Place, Position, State, Stop, Where};
