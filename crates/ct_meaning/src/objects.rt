@@ -1,9 +1,10 @@
 //! The rules on objects, steps and levels.
 
-ghost use Rattle.std.specs.Prelude.{◌≡◌, ◌+◌, ◌<◌, ◌≤◌, ℕ, zero, IfOk, OnOk, Option, Some, None, option_map, List, Ok, Err, length, min, max, slice_get, unwrap_or};
+ghost use Rattle.std.specs.Prelude.{◌≡◌, ◌+◌, ◌<◌, ◌≤◌, ℕ, zero, IfOk, OnOk, Option, Some, None, option_map, List, Ok, Err, length, min, max, take, slice_get, unwrap_or};
+ghost use Rattle.ct_core.specs.Access.{end_result};
 ghost use Rattle.ct_core.specs.Memory.{next_pointer};
 ghost use Rattle.ct_core.specs.declared.values.Value.TheVariants.{Object};
-ghost use Rattle.ct_meaning.specs.World.{unit_space, variable_at, object_in, text_pointer};
+ghost use Rattle.ct_meaning.specs.World.{unit_space, variable_at, object_in, text_count, same_space, text_pointer};
 ghost use Rattle.ct_meaning.specs.Rules as spec;
 ghost use Rattle.ct_meaning.specs.Meaning as meaning;
 ghost use Rattle.ct_meaning.specs.Views.{world_of, where_of, Gives};
@@ -12,8 +13,9 @@ use crate::program::Program;
 use crate::state::{Place, Position, State, Stop, Where};
 use crate::values;
 use ct_base::{FaultKind, Items, Mem, OutOfMemory};
-use ct_core::{Kind, Mark, Pointer, Scalar, Space, Value, Variable};
+use ct_core::{CoreUnit, Kind, Mark, Pointer, Scalar, Space, Value, Variable};
 use ct_ctype::{CType, Structs, size_of};
+use ct_memory::Memory;
 
 /// How many levels calls may nest.
 pub const LEVEL_LIMIT: u32 = 64;
@@ -128,6 +130,7 @@ impl Program<'_> {
     }
 
     /// Makes the objects of variables, and gives the frame with them.
+    #[tactic(auto, unfolding(crate::specs::Rules::begin_objects))]
     pub fn begin_objects(
         &self,
         state: &mut State,
@@ -193,17 +196,10 @@ impl Program<'_> {
         ensures { IfOk result (λ v. v ≡ Object (text_pointer (world_of self.now) unit text)) }
     {
         let space = self.unit_space(unit);
-        let mut number = u64::from(text);
-        for earlier in self.units.iter().take(unit as usize) {
-            if earlier.space == space {
-                number = number
-                    .checked_add(earlier.texts.len() as u64)
-                    .ok_or(OutOfMemory)?;
-            }
-        }
+        let earlier = text_count(space, first_of(self.units, unit as usize))?;
         Ok(Value::Object(Pointer {
             space,
-            number,
+            number: sum(earlier, u64::from(text))?,
             offset: 0,
         }))
     }
@@ -227,12 +223,11 @@ impl Program<'_> {
     pub fn end_objects(&self, state: &mut State, count: usize, frame: &[(u32, Pointer)])
         ensures { state.new ≡ spec.end_objects count frame.now state.old }
     {
-        for entry in frame.iter().take(count) {
-            let _ = state.memory.end(entry.1);
-        }
+        end_all(&mut state.memory, first_of(frame, count));
     }
 
     /// The places of a function's parameters.
+    #[tactic(auto, using(crate::proofs::Frames::places_more))]
     pub fn places(&self, count: u32) -> Mem<Items<u32>>
         ensures { IfOk result (λ places. places ≡ meaning.places_from 0 count) }
     {
@@ -262,6 +257,64 @@ impl Program<'_> {
             None => Err(self.stop(state, h, FaultKind::BadCall)),
         }
     }
+}
+
+/// So many elements from the first on, or all where there are fewer.
+fn first_of<T>(items: &[T], count: usize) -> &[T]
+    ensures { result.now ≡ take count items.now }
+{
+    if count < items.len() {
+        &items[..count]
+    } else {
+        items
+    }
+}
+
+/// Ends objects, where the pointers are to the begin of one.
+fn end_all(memory: &mut Memory, objects: &[(u32, Pointer)])
+    ensures { memory.new ≡ spec.without_objects objects.now memory.old }
+{
+    for object in objects {
+        end(memory, object.1);
+    }
+}
+
+/// Ends an object, where a pointer is to the begin of one.
+fn end(memory: &mut Memory, at: Pointer)
+    ensures { memory.new ≡ spec.result_or (end_result at memory.old) memory.old }
+{
+    match memory.end(at) {
+        Ok(()) | Err(_) => {}
+    }
+}
+
+/// How many string literals these units have in a space.
+fn text_count(space: Space, units: &[CoreUnit]) -> Mem<u64>
+    ensures { IfOk result (λ count. count ≡ text_count space units.now) }
+{
+    let mut count = 0;
+    for unit in units {
+        if same_space(unit.space, space) {
+            count = sum(count, unit.texts.len() as u64)?;
+        }
+    }
+    Ok(count)
+}
+
+fn same_space(a: Space, b: Space) -> bool
+    ensures { result ≡ same_space a b }
+{
+    matches!(
+        (a, b),
+        (Space::Project, Space::Project) | (Space::Tool, Space::Tool)
+    )
+}
+
+/// The sum of two numbers, where it can be represented.
+fn sum(a: u64, b: u64) -> Mem<u64>
+    ensures { IfOk result (λ total. total ≡ a + b) }
+{
+    a.checked_add(b).ok_or(OutOfMemory)
 }
 
 /// The object of a variable, where it exists.

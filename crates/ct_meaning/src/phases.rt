@@ -3,7 +3,7 @@
 ghost use Rattle.std.specs.Prelude.{◌≡◌, ◌+◌, ◌++◌, ◌∷◌, [], ◌==◌, if◌then◌else◌, pos, unsigned_abs, ◌<◌, IfOk, OnOk, MatchResult, Option, Some, None, Ok, Err, codes};
 ghost use Rattle.std.specs.Fmt.{signed_decimal};
 ghost use Rattle.ct_ctype.specs.Ranges.{InRange};
-ghost use Rattle.ct_core.specs.Access.{string_at, and_then};
+ghost use Rattle.ct_core.specs.Access.{string_at, and_then, byte_of};
 ghost use Rattle.ct_core.specs.Testing.{finished};
 ghost use Rattle.ct_core.specs.BuiltIns.{equal_failure};
 ghost use Rattle.ct_meaning.specs.Rules as spec;
@@ -67,17 +67,28 @@ fn equal_operands(values: &[Value]) -> Result<(u32, i128, i128), FaultKind>
 }
 
 /// The first byte of the string at a place.
+#[tactic(auto, using(crate::proofs::Strings::string_fault, crate::proofs::Strings::string_byte, crate::proofs::Strings::string_none))]
 fn byte_at(memory: &Memory, at: Pointer) -> Result<u8, FaultKind>
     ensures { MatchResult result (λ byte. string_at at memory.now ≡ (if byte == 0 then Ok [] else and_then (string_at (record at { offset = at.offset + 1 }) memory.now) (λ rest. Ok (byte ∷ rest)))) (λ fault. string_at at memory.now ≡ Err fault) }
 {
     memory.load(at, Scalar::Int(IntKind::UnsignedChar))?;
     match memory.cell(at) {
-        Some(Cell::Byte(byte)) => Ok(byte),
-        Some(Cell::Nothing | Cell::Part(_, _)) | None => Err(FaultKind::OutOfBounds),
+        Some(cell) => Ok(byte_of(cell)),
+        None => Err(FaultKind::OutOfBounds),
+    }
+}
+
+fn byte_of(cell: Cell) -> u8
+    ensures { result ≡ byte_of cell }
+{
+    match cell {
+        Cell::Byte(byte) => byte,
+        Cell::Nothing | Cell::Part(_, _) => 0,
     }
 }
 
 /// The string at a place, or a fault.
+#[tactic(auto, using(crate::proofs::Strings::onto_none, crate::proofs::Strings::onto_more))]
 fn string_at(alloc: Global, memory: &Memory, at: Pointer) -> Mem<Result<Bytes, FaultKind>>
     ensures { IfOk result (λ read. read ≡ string_at at memory.now) }
 {
