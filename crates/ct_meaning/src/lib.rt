@@ -5,14 +5,14 @@ mod evaluator;
 mod laws;
 mod objects;
 mod phases;
-mod plain;
 mod program;
 mod rules;
+mod run;
 mod state;
 #[cfg(test)]
 mod tests;
 mod values;
 
 pub use laws::{any_numbers, nothing_is_given_back};
-pub use plain::plain;
+pub use run::plain;
 pub use state::{Ending, Place, Position, State, Stop, Where};
