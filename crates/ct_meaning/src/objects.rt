@@ -1,6 +1,6 @@
 //! The rules on objects, steps and levels.
 
-ghost use Rattle.std.specs.Prelude.{◌≡◌, ◌+◌, ◌<◌, ◌≤◌, ℕ, zero, IfOk, OnOk, Option, Some, None, option_map, List, Ok, Err, length, min, max, take, slice_get, unwrap_or};
+ghost use Rattle.std.specs.Prelude.{◌≡◌, ◌+◌, ◌<◌, IfOk, OnOk, Some, min, max, take, slice_get, unwrap_or};
 ghost use Rattle.ct_core.specs.Access.{end_result};
 ghost use Rattle.ct_core.specs.Memory.{next_pointer};
 ghost use Rattle.ct_core.specs.declared.values.Value.TheVariants.{Object};

@@ -1,6 +1,6 @@
 //! The functions that are built in: assertions, and the phases of a test.
 
-ghost use Rattle.std.specs.Prelude.{◌≡◌, ◌+◌, ◌++◌, ◌∷◌, [], ◌==◌, if◌then◌else◌, pos, unsigned_abs, ◌<◌, IfOk, OnOk, MatchResult, Option, Some, None, Ok, Err, codes};
+ghost use Rattle.std.specs.Prelude.{◌≡◌, ◌+◌, ◌++◌, ◌∷◌, [], ◌==◌, if◌then◌else◌, pos, ◌<◌, IfOk, OnOk, MatchResult, Some, Ok, Err, codes};
 ghost use Rattle.std.specs.Fmt.{signed_decimal};
 ghost use Rattle.ct_ctype.specs.Ranges.{InRange};
 ghost use Rattle.ct_core.specs.Access.{string_at, and_then, byte_of};
@@ -87,7 +87,7 @@ fn byte_of(cell: Cell) -> u8
     }
 }
 
-/// The string at a place, or a fault.
+/// The string at a place, or a fault. No object is so long that a string passes the last offset.
 #[tactic(auto, using(crate::proofs::Strings::onto_none, crate::proofs::Strings::onto_more))]
 fn string_at(alloc: Global, memory: &Memory, at: Pointer) -> Mem<Result<Bytes, FaultKind>>
     ensures { IfOk result (λ read. read ≡ string_at at memory.now) }
