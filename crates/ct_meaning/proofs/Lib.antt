@@ -1,9 +1,11 @@
-pub mod Related
-pub mod Spends
+pub mod During
+pub mod Frames
+pub mod Goes
+pub mod Levels
 pub mod Numbers
 pub mod Parts
-pub mod Goes
-pub mod During
+pub mod Related
+pub mod Spends
 pub mod Steps
-pub mod Levels
+pub mod Strings
 pub mod Verdicts

@@ -46,7 +46,7 @@ impl<
         match e {
             CoreExpression::Constant(_, z) => Ok(Value::Int(*z)),
             CoreExpression::Variable(place) => self.program.variable(state, h, *place),
-            CoreExpression::Text(text) => self.program.literal(h.at.unit, *text),
+            CoreExpression::Text(text) => Ok(self.program.literal(h.at.unit, *text)?),
             CoreExpression::Function(name) => self.program.designator(state, h, name.as_slice()),
             CoreExpression::Load(t, a) => {
                 let address = self.expression(state, h, a.get())?;
