@@ -1,3 +1,4 @@
-pub mod Related
 pub mod Spends
+pub mod AllNames
+pub mod Related
 pub mod Numbers
