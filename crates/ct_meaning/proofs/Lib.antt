@@ -2,3 +2,4 @@ pub mod Spends
 pub mod AllNames
 pub mod Related
 pub mod Numbers
+pub mod Positions

@@ -301,14 +301,18 @@ module _ (w : World) where
     call = call_keeps;
   }
 
-  row_keeps : (row : Row) (n : ℕ) → Keeps Same (Endings Equal) n (row_body row) (row_body row)
-  row_keeps Empty n = done Same (Endings Equal) n Onward Onward tt
+  row_keeps : (row : Row) (n : ℕ) (h k : Where) → SameCall Any h k → (xs ys : List Value) → Each Equal xs ys
+      → Keeps Same (Endings Equal) n (row_body w h row xs) (row_body w k row ys)
+  row_keeps Empty n h k same [] [] e = done Same (Endings Equal) n Onward Onward tt
+  row_keeps Empty n h k same (x ∷ xs) (y ∷ ys) e = record { at = λ m le s t r. both_failed h k same BadCall m s t r }
+  row_keeps Empty n h k same [] (y ∷ ys) e = absurd e
+  row_keeps Empty n h k same (x ∷ xs) [] e = absurd e
 
   -- each function is the same in the same world
   alike_at : (number : ℕ) (t : Option Target) → target_of w number ≡ t → Alike w w Any Any any_name Equal Same equal_kin number
   alike_at number (Some (Defined unit place function)) e = Shared unit place function tt (any_statement function.body) e e
   alike_at number (Some (Outside row)) e = Other (λ n i j le le' f g enters xs ys d h k same deep.
-      let P : Option Target → Type 0 = λ t. Keeps Same (Endings Equal) n (body_of w i f t xs h) (body_of w j g t ys k) in subst P (sym e) (row_keeps row n))
+      let P : Option Target → Type 0 = λ t. Keeps Same (Endings Equal) n (body_of w i f t xs h) (body_of w j g t ys k) in subst P (sym e) (row_keeps row n h k same xs ys d))
   alike_at number (Some (Given b)) e = Other (λ n i j le le' f g enters xs ys d h k same deep.
       let P : Option Target → Type 0 = λ t. Keeps Same (Endings Equal) n (body_of w i f t xs h) (body_of w j g t ys k) in subst P (sym e) (done Same (Endings Equal) n Onward Onward tt))
   alike_at number None e = Other (λ n i j le le' f g enters xs ys d h k same deep.

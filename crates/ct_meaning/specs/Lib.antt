@@ -6,4 +6,5 @@ pub mod Names
 pub mod Program
 pub mod Written
 pub mod Runner
+pub mod Linked
 pub mod Views

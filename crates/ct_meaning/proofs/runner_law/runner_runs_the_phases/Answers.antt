@@ -1,0 +1,5 @@
+use Rattle.ct_meaning.proofs.Positions as positions
+use Rattle.ct_meaning.proofs.runner_law.runner_runs_the_phases.Goals as goal
+
+pub returns : goal.returns
+returns c = ?
