@@ -3,3 +3,5 @@ pub mod AllNames
 pub mod Related
 pub mod Numbers
 pub mod Positions
+pub mod ToolMemory
+pub mod RunnerRules

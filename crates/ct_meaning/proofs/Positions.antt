@@ -1,5 +1,5 @@
 -- Where an element stands in a list.
-use Rattle.std.proofs.Common.{◌≡◌, ℕ, zero, suc, ◌+◌, ◌<◌, ◌≤◌, List, [], ◌∷◌, ◌++◌, Bool, true, false, cond, Option, Some, None, refl, sym, ap, subst, ◌∙◌, arith, length, nat_lt, lt-ltb, ltb-true}
+use Rattle.std.proofs.Common.{◌≡◌, ℕ, zero, suc, ◌+◌, ◌<◌, ◌≤◌, List, [], ◌∷◌, ◌++◌, Bool, true, false, cond, Option, Some, None, refl, sym, ap, subst, ◌∙◌, arith, length, nat_lt, lt-ltb, le-ltb}
 use Rattle.std.specs.Prelude.{slice_get, position, find, filter, All}
 use Rattle.std.specs.List.{position_or_len}
 use Rattle.std.proofs.lemmas.Option.{none-some, same_Some, slice_get_within, slice_get-get_or, slice_get_past}
@@ -12,25 +12,26 @@ pub data Placed {X : Type 0} (p : X → Bool) (xs : List X) : Option ℕ → Typ
 
 found_passes : {X : Type 0} (p : X → Bool) (xs : List X) (x : X) → find p xs ≡ Some x → p x ≡ true
 found_passes {X} p [] x e = absurd (none-some x e)
-found_passes {X} p (y ∷ xs) x e = at (p y) refl e
+found_passes {X} p (y ∷ xs) x e = at (p y) refl (found_passes p xs x) e
   where
-    at : (b : Bool) → p y ≡ b → cond b (Some y) (find p xs) ≡ Some x → p x ≡ true
-    at true is e = let P : X → Type 0 = λ z. p z ≡ true in subst P (same_Some y x e) is
-    at false is e = found_passes p xs x e
+    at : (b : Bool) → p y ≡ b → (find p xs ≡ Some x → p x ≡ true) → cond b (Some y) (find p xs) ≡ Some x → p x ≡ true
+    at true is further e = let P : X → Type 0 = λ z. p z ≡ true in subst P (same_Some y x e) is
+    at false is further e = further e
 
 none_passes : {X : Type 0} (p : X → Bool) (xs : List X) → find p xs ≡ None → (k : ℕ) (x : X) → slice_get xs k ≡ Some x → p x ≡ false
 none_passes {X} p [] e k x at = absurd (none-some x at)
-none_passes {X} p (y ∷ xs) e k x at = here (p y) refl e k at
+none_passes {X} p (y ∷ xs) e k x at = here (p y) refl (none_passes p xs) e k at
   where
-    here : (b : Bool) → p y ≡ b → cond b (Some y) (find p xs) ≡ None → (k : ℕ) → slice_get (y ∷ xs) k ≡ Some x → p x ≡ false
-    here true is e k at = absurd (none-some y (sym e))
-    here false is e zero at = let P : X → Type 0 = λ z. p z ≡ false in subst P (same_Some y x at) is
-    here false is e (suc k) at = none_passes p xs e k x at
+    here : (b : Bool) → p y ≡ b → (find p xs ≡ None → (k : ℕ) (x : X) → slice_get xs k ≡ Some x → p x ≡ false)
+        → cond b (Some y) (find p xs) ≡ None → (k : ℕ) → slice_get (y ∷ xs) k ≡ Some x → p x ≡ false
+    here true is further e k at = absurd (none-some y (sym e))
+    here false is further e zero at = let P : X → Type 0 = λ z. p z ≡ false in subst P (same_Some y x at) is
+    here false is further e (suc k) at = further e k x at
 
-past_none : {X : Type 0} (xs : List X) (k : ℕ) → slice_get xs k ≡ None → nat_lt k (length xs) ≡ false
-past_none {X} [] k e = refl
-past_none {X} (x ∷ xs) zero e = absurd (none-some x (sym e))
-past_none {X} (x ∷ xs) (suc k) e = past_none xs k e
+none_past : {X : Type 0} (xs : List X) (k : ℕ) → slice_get xs k ≡ None → length xs ≤ k
+none_past {X} [] k e = omega arith
+none_past {X} (x ∷ xs) zero e = absurd (none-some x (sym e))
+none_past {X} (x ∷ xs) (suc k) e = let le = none_past xs k e in omega arith
 
 pub placed : {X : Type 0} (p : X → Bool) (xs : List X) → Placed p xs (position p xs)
 placed {X} p xs = by (find p xs) refl
@@ -42,7 +43,7 @@ placed {X} p xs = by (find p xs) refl
         subst P (sym (lt-ltb _ _ (slice_get_within xs (position_or_len p xs) x at))) (Found (position_or_len p xs) x at (found_passes p xs x e))
     by None e =
         let P : Bool → Type 0 = λ b. Placed p xs (cond b (Some (position_or_len p xs)) None) in
-        subst P (sym (past_none xs (position_or_len p xs) (sym (find_at p xs) ∙ e))) (Nowhere (none_passes p xs e))
+        subst P (sym (le-ltb _ _ (none_past xs (position_or_len p xs) (sym (find_at p xs) ∙ e)))) (Nowhere (none_passes p xs e))
 
 -- ---- lists put together
 
