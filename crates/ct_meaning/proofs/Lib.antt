@@ -4,4 +4,5 @@ pub mod Related
 pub mod Numbers
 pub mod Positions
 pub mod ToolMemory
+pub mod RunnerValues
 pub mod RunnerRules

@@ -34,7 +34,8 @@ use Rattle.ct_meaning.specs.Names.{statement_names}
 use Rattle.ct_meaning.specs.Linked.{is_ordinary}
 use Rattle.ct_meaning.proofs.Related.{Agree, Lower, Keeps, Always, Equal, PlaceIn, SameCall, done}
 use Rattle.ct_meaning.proofs.Spends.{stop_spends}
-use Rattle.ct_meaning.proofs.ToolMemory.{Own, own_front, put, put_in, next_put, new_put, load_put, store_put, initialise_put, without_put}
+use Rattle.ct_meaning.proofs.ToolMemory.{Own, own_front, put, next_put, new_put, without_put}
+use Rattle.ct_meaning.proofs.RunnerValues.{Safe, SameValue, SafeResult, SafeStored, safe_address, safe_loaded, safe_stored, safe_first, put_stored, from_put, stored_put, first_put}
 
 -- ---- two worlds
 
@@ -58,23 +59,6 @@ pub record Twins (plain written : World) (U N : ℕ → Type 0) : Type 0 where
   pub targets : (number : ℕ) → N number → Targets plain U (target_of plain number) (target_of written number)
 
 -- ---- two runs
-
--- values that Project code may have
-abbrev pub Safe : (ℕ → Type 0) → Value → Type 0
-Safe N (Object p) = p.space ≡ Project
-Safe N (Function number) = N number
-Safe N Void = Unit {0}
-Safe N Null = Unit {0}
-Safe N (Int z) = Unit {0}
-Safe N (Struct cells) = Unit {0}
-
-pub record SameValue (N : ℕ → Type 0) (x y : Value) : Type 0 where
-  pub same : x ≡ y
-  pub safe : Safe N x
-
-abbrev pub SafeResult : (ℕ → Type 0) → Result Value FaultKind → Type 0
-SafeResult N (Ok x) = Safe N x
-SafeResult N (Err fault) = Unit {0}
 
 -- a test runs, the so many-th, and its phase was not aborted
 pub record Going (begun : ℕ) (s : State) : Type 0 where
@@ -191,3 +175,47 @@ module _ (plain written : World) (U N : ℕ → Type 0) (T : List Stored) (begun
   levels h k same n =
       let P : ℕ → Type 0 = λ l. Keeps R Always n (checked plain h (nat_lt h.level level_limit)) (checked written k (nat_lt l level_limit)) in
       subst P same.level (checked_keeps (nat_lt h.level level_limit) h k same n)
+
+  -- ---- objects
+
+  held : (m : ℕ) (t : State) → left_in written.budget t < m → Going begun t → R m (with_tool T t) t
+  held m t below going = record { same = refl; below = below; going = going }
+
+  pub loads : (n : ℕ) (h : Where) → SameCall U h h → (t : Scalar) (a : Value) → Safe N a → Keeps R V n (load plain h t a) (load written h t a)
+  unfolding load
+  loads n h same t a safe = by_tool V n _ _ (λ m s below going.
+      let P : Result Value FaultKind → Type 0 = λ r. Agree V (R m) (given plain h r (with_tool T s)) (given written h (value_from a t s.memory) s) in
+      subst P (sym (from_put N T a safe t s.memory))
+      ((safe_keeps m h h same (value_from a t s.memory) (safe_loaded N a t s.memory)).at m (omega arith) (with_tool T s) s (held m s below going)))
+
+  changed_keeps : (h : Where) → SameCall U h h → (m : ℕ) (s : State) → left_in written.budget s < m → Going begun s
+      → (r : Result (Value × Memory) FaultKind) → SafeStored N r → Agree V (R m) (changed plain h (with_tool T s) (put_stored N T r)) (changed written h s r)
+  unfolding changed
+  changed_keeps h same m s below going (Ok stored) safe =
+      (record { same = refl; safe = safe }, record { same = refl; below = below; going = record { running = going.running; unaborted = going.unaborted; count = going.count } })
+  changed_keeps h same m s below going (Err fault) safe = stopped_run h h same fault m s below going
+
+  pub stores : (n : ℕ) (h : Where) → SameCall U h h → (t : Scalar) (a x : Value) → Safe N a → Keeps R V n (store plain h t a x) (store written h t a x)
+  unfolding store
+  stores n h same t a x safe = by_tool V n _ _ (λ m s below going.
+      let P : Result (Value × Memory) FaultKind → Type 0 = λ r. Agree V (R m) (changed plain h (with_tool T s) r) (changed written h s (stored_value a t x s.memory)) in
+      subst P (sym (stored_put N T a safe t x s.memory))
+      (changed_keeps h same m s below going (stored_value a t x s.memory) (safe_stored N a t x s.memory)))
+
+  first_keeps : (h : Where) → SameCall U h h → (m : ℕ) (s : State) → left_in written.budget s < m → Going begun s → (t : Scalar) (x : Value) (r : Result Value FaultKind) → SafeResult N r
+      → Agree V (R m) (changed plain h (with_tool T s) (and_then r (λ a. first_value a t x (put T s.memory)))) (changed written h s (and_then r (λ a. first_value a t x s.memory)))
+  first_keeps h same m s below going t x (Ok a) safe =
+      let P : Result (Value × Memory) FaultKind → Type 0 = λ r. Agree V (R m) (changed plain h (with_tool T s) r) (changed written h s (first_value a t x s.memory)) in
+      subst P (sym (first_put N T a safe t x s.memory))
+      (changed_keeps h same m s below going (first_value a t x s.memory) (safe_first N a t x s.memory))
+  first_keeps h same m s below going t x (Err fault) safe = changed_keeps h same m s below going (Err fault) tt
+
+  pub initialises : (n : ℕ) (h : Where) → SameCall U h h → Own h.frame → (place : ℕ) (t : Scalar) (x : Value) → Keeps R V n (initialise plain h place t x) (initialise written h place t x)
+  unfolding initialise
+  initialises n h same own place t x = by_tool V n _ _ (λ m s below going.
+      first_keeps h same m s below going t x (address_in h.frame place) (safe_address N h.frame own place))
+
+  pub parameter_keeps : (n : ℕ) (h : Where) → SameCall U h h → Own h.frame → (place : ℕ) (x : Value) (t : Option Scalar)
+      → Keeps R V n (initialise_parameter plain h place x t) (initialise_parameter written h place x t)
+  parameter_keeps n h same own place x (Some t) = initialises n h same own place t x
+  parameter_keeps n h same own place x None = stop_keeps V n h h same BadCall
