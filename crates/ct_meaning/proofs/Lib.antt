@@ -6,3 +6,4 @@ pub mod Positions
 pub mod ToolMemory
 pub mod RunnerValues
 pub mod RunnerRules
+pub mod RunnerKin

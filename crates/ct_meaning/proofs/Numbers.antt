@@ -44,7 +44,7 @@ self budget n p sp = record { at = λ m le s t r. self_at budget m p s t sp r.sa
 same_pointer : (p q : Pointer) → Object p ≡ Object q → p ≡ q
 same_pointer p q e = cc
 
-same_frame : (f g : List (ℕ × Pointer)) → Each (Entry Equal) f g → f ≡ g
+pub same_frame : (f g : List (ℕ × Pointer)) → Each (Entry Equal) f g → f ≡ g
 same_frame [] [] h = refl
 same_frame (a ∷ f) (b ∷ g) h =
     let e : a.0 ≡ b.0 = h.0.0 in let d : a.1 ≡ b.1 = same_pointer a.1 b.1 h.0.1 in
@@ -52,7 +52,7 @@ same_frame (a ∷ f) (b ∷ g) h =
 same_frame [] (b ∷ g) h = absurd h
 same_frame (a ∷ f) [] h = absurd h
 
-same_values : (xs ys : List Value) → Each Equal xs ys → xs ≡ ys
+pub same_values : (xs ys : List Value) → Each Equal xs ys → xs ≡ ys
 same_values [] [] h = refl
 same_values (x ∷ xs) (y ∷ ys) h = ap (λ (v : Value). v ∷ xs) h.0 ∙ ap (λ (vs : List Value). y ∷ vs) (same_values xs ys h.1)
 same_values [] (y ∷ ys) h = absurd h
@@ -86,7 +86,7 @@ flow_alike a b e = let P : Ending → Type 0 = λ x. Endings Equal a x in subst 
 abbrev pub Any : ℕ → Type 0
 Any unit = Unit {0}
 
-same_where : (h k : Where) → SameWhere Any Any Equal h k → h ≡ k
+pub same_where : (h k : Where) → SameWhere Any Any Equal h k → h ≡ k
 same_where h k same =
     ap (λ l. record h { level = l }) same.call.level
     ∙ ap (λ u. record h { level = k.level; unit = u }) same.unit

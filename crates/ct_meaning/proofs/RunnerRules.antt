@@ -76,7 +76,7 @@ pub record SameRun (T : List Stored) (budget begun m : ℕ) (s t : State) : Type
   pub below : left_in budget t < m
   pub going : Going begun t
 
-still_running : (f : TestState → TestState) (t : Option TestState) → is_some t ≡ true → is_some (option_map f t) ≡ true
+pub still_running : (f : TestState → TestState) (t : Option TestState) → is_some t ≡ true → is_some (option_map f t) ≡ true
 still_running f (Some t) e = refl
 still_running f None e = cc
 
