@@ -1,11 +1,17 @@
+pub mod AllNames
 pub mod During
 pub mod Frames
 pub mod Goes
 pub mod Levels
 pub mod Numbers
 pub mod Parts
+pub mod Positions
 pub mod Related
+pub mod RunnerKin
+pub mod RunnerRules
+pub mod RunnerValues
 pub mod Spends
 pub mod Steps
 pub mod Strings
+pub mod ToolMemory
 pub mod Verdicts

@@ -36,7 +36,7 @@ bind budget p f h k = record { at = λ s. then_spends budget (p s) f (left_in bu
 pub pure_spends : {A : Type 0} (budget : ℕ) (a : A) → Spends budget (pure a)
 pure_spends budget a = record { at = λ s. omega arith }
 
-same_left : (f : TestState → TestState) (t : Option TestState) → left_in_test (option_map f t) ≡ left_in_test t
+pub same_left : (f : TestState → TestState) (t : Option TestState) → left_in_test (option_map f t) ≡ left_in_test t
 same_left f None = refl
 same_left f (Some t) = refl
 

@@ -180,12 +180,14 @@ defined_body w n call unit place f values h =
     within w (record h { unit = unit; function = place; frame = [] }) (places_from 0 f.parameters)
     (λ inner. initialise_parameters w inner 0 values >> statement w n call f.body inner)
 
-abbrev pub row_body : Row → Does Ending
-row_body Empty = pure Onward
+-- an empty function of the type void (void); typed trees hand it no argument
+abbrev pub row_body : World → Where → Row → List Value → Does Ending
+row_body w h Empty [] = pure Onward
+row_body w h Empty (v ∷ values) = stop w h BadCall
 
 abbrev pub body_of : World → ℕ → Calls → Option Target → List Value → Where → Does Ending
 body_of w n call (Some (Defined unit place f)) values h = defined_body w n call unit place f values h
-body_of w n call (Some (Outside row)) values h = row_body row
+body_of w n call (Some (Outside row)) values h = row_body w h row values
 body_of w n call (Some (Given b)) values h = pure Onward
 body_of w n call None values h = pure Onward
 

@@ -1,0 +1,8 @@
+use Rattle.ct_meaning.proofs.RunnerKin as runner_kin
+use Rattle.ct_meaning.proofs.RunnerRules as runner_rules
+use Rattle.ct_meaning.proofs.ToolMemory as tool_memory
+use Rattle.ct_meaning.proofs.Positions as positions
+use Rattle.ct_meaning.proofs.runner_law.runner_runs_the_phases.Goals as goal
+
+pub returns : goal.returns
+returns c = ?
