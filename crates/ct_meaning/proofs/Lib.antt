@@ -7,3 +7,4 @@ pub mod ToolMemory
 pub mod RunnerValues
 pub mod RunnerRules
 pub mod RunnerKin
+pub mod RunnerCalls
