@@ -7,6 +7,7 @@ pub mod Numbers
 pub mod Parts
 pub mod Positions
 pub mod Related
+pub mod RunnerCalls
 pub mod RunnerKin
 pub mod RunnerRules
 pub mod RunnerValues

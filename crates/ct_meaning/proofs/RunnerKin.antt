@@ -63,7 +63,7 @@ module _ (U N : ℕ → Type 0) where
   frame_entries [] own = tt
   frame_entries (a ∷ f) own = ((refl, record { same = refl; safe = own.0 }), frame_entries f own.1)
 
-  equal_values : (xs ys : List Value) → Each (SameValue N) xs ys → Each Equal xs ys
+  pub equal_values : (xs ys : List Value) → Each (SameValue N) xs ys → Each Equal xs ys
   equal_values [] [] e = tt
   equal_values (x ∷ xs) (y ∷ ys) e = (e.0.same, equal_values xs ys e.1)
   equal_values [] (y ∷ ys) e = absurd e
@@ -77,19 +77,19 @@ module _ (U N : ℕ → Type 0) where
         any_place (Some p) = tt
         any_place None = tt
 
-    where_same : h ≡ k
+    pub where_same : h ≡ k
     where_same = same_where h k (record {
       call = record { level = same.call.level; place = same.call.place; known = known_any };
       deep = tt; unit = same.unit; within = tt; function = same.function; frame = equal_frame h.frame k.frame same.frame;
     })
 
-    inside : Inside U h
+    pub inside : Inside U h
     inside = record {
       call = record { level = refl; place = refl; known = same.call.known };
       deep = same.deep; unit = same.within; frame = own_frame h.frame k.frame same.frame;
     }
 
-  where_inside : (h : Where) → Inside U h → SameWhere U Deep (SameValue N) h h
+  pub where_inside : (h : Where) → Inside U h → SameWhere U Deep (SameValue N) h h
   where_inside h i = record { call = i.call; deep = i.deep; unit = refl; within = i.unit; function = refl; frame = frame_entries h.frame i.frame }
 
 -- what the calls that act at level 0 alone do inside a call: nothing
@@ -97,10 +97,10 @@ module _ (h : Where) (deep : Deep h.level) where
   not_outermost : (h.level == 0) ≡ false
   not_outermost = ne_eqb h.level 0 (λ e. absurd (omega arith))
 
-  never : (b : Bool) → ((h.level == 0) && b) ≡ false
+  pub never : (b : Bool) → ((h.level == 0) && b) ≡ false
   never b = let P : Bool → Type 0 = λ x. (x && b) ≡ false in subst P (sym not_outermost) refl
 
-  never_both : (b c : Bool) → ((h.level == 0) && b && c) ≡ false
+  pub never_both : (b c : Bool) → ((h.level == 0) && b && c) ≡ false
   never_both b c = let P : Bool → Type 0 = λ x. (x && c) ≡ false in subst P (sym (never b)) refl
 
 module _ (plain written : World) (U N : ℕ → Type 0) (T : List Stored) (count : ℕ) (twins : Twins plain written U N) where
@@ -111,7 +111,7 @@ module _ (plain written : World) (U N : ℕ → Type 0) (T : List Stored) (count
   V = SameValue N
 
   -- one rule in two places that are the same
-  placed : {A B : Type 0} (W : A → B → Type 0) (n : ℕ) (h k : Where) → SameWhere U Deep V h k → (p : Where → Does A) (q : Where → Does B)
+  pub placed : {A B : Type 0} (W : A → B → Type 0) (n : ℕ) (h k : Where) → SameWhere U Deep V h k → (p : Where → Does A) (q : Where → Does B)
       → ((x : Where) → Inside U x → Keeps R W n (p x) (q x)) → Keeps R W n (p h) (q k)
   placed W n h k same p q all =
       let P : Where → Type 0 = λ x. Keeps R W n (p h) (q x) in subst P (where_same U N h k same) (all h (inside U N h k same))
@@ -119,7 +119,7 @@ module _ (plain written : World) (U N : ℕ → Type 0) (T : List Stored) (count
   -- ---- objects of variables
 
   module _ (h : Where) (i : Inside U h) (place : ℕ) (m : Memory) where
-    variable_same : variable_at plain h place ≡ variable_at written h place
+    pub variable_same : variable_at plain h place ≡ variable_at written h place
     variable_same =
         ap (λ (o : Option CoreUnit). variable_of (option_and_then (λ (u : CoreUnit). slice_get u.functions h.function) o) place) (twins.unit h.unit i.unit)
 
@@ -153,14 +153,14 @@ module _ (plain written : World) (U N : ℕ → Type 0) (T : List Stored) (count
       subst P (sym (pointer_same h i place t.memory)) (subst Q (sym (memory_same h i place t.memory))
       (begin_at h i places ((place, at) ∷ f) (twins.space h.unit i.unit, own) m next below (record { running = going.running; unaborted = going.unaborted; count = going.count })))
 
-  begins : (h k : Where) → SameWhere U Deep V h k → (n : ℕ) (places : List ℕ) (f g : List (ℕ × Pointer)) → Each (Entry V) f g
+  pub begins : (h k : Where) → SameWhere U Deep V h k → (n : ℕ) (places : List ℕ) (f g : List (ℕ × Pointer)) → Each (Entry V) f g
       → Keeps R (Each (Entry V)) n (begin_objects plain h places f) (begin_objects written k places g)
   begins h k same n places f g e =
       let P : List (ℕ × Pointer) → Type 0 = λ x. Keeps R (Each (Entry V)) n (begin_objects plain h places f) (begin_objects written k places x) in
       subst P (same_frame f g (equal_frame U N f g e)) (placed (Each (Entry V)) n h k same (λ x. begin_objects plain x places f) (λ x. begin_objects written x places f)
       (λ x i. rule.by_tool plain written U N T count twins (Each (Entry V)) n _ _ (λ m t below going. begin_at x i places f (own_frame U N f g e) m t below going)))
 
-  ended : (n : ℕ) (f g : List (ℕ × Pointer)) → Each (Entry V) f g → (m : ℕ) (s t : State) → R m s t → R m (end_objects n f s) (end_objects n g t)
+  pub ended : (n : ℕ) (f g : List (ℕ × Pointer)) → Each (Entry V) f g → (m : ℕ) (s t : State) → R m s t → R m (end_objects n f s) (end_objects n g t)
   unfolding end_objects
   ended n f g e m s t r =
       let P : List (ℕ × Pointer) → Type 0 = λ x. R m (end_objects n f s) (end_objects n x t) in
@@ -171,7 +171,7 @@ module _ (plain written : World) (U N : ℕ → Type 0) (T : List Stored) (count
         going = record { running = r.going.running; unaborted = r.going.unaborted; count = r.going.count };
       }))
 
-  begun_same : (h k : Where) → SameWhere U Deep V h k → (mark : Mark) → SameWhere U Deep V (begun plain h mark) (begun written k mark)
+  pub begun_same : (h k : Where) → SameWhere U Deep V h k → (mark : Mark) → SameWhere U Deep V (begun plain h mark) (begun written k mark)
   begun_same h k same mark =
       let i = inside U N h k same in
       let P : Where → Type 0 = λ x. SameWhere U Deep V (begun plain h mark) (begun written x mark) in

@@ -1,3 +1,4 @@
+use Rattle.ct_meaning.proofs.RunnerCalls as runner_calls
 use Rattle.ct_meaning.proofs.RunnerKin as runner_kin
 use Rattle.ct_meaning.proofs.RunnerRules as runner_rules
 use Rattle.ct_meaning.proofs.ToolMemory as tool_memory
