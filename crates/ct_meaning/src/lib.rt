@@ -8,7 +8,10 @@ mod phases;
 mod program;
 mod rules;
 mod run;
+mod runner;
+mod runner_law;
 mod state;
+mod table;
 #[cfg(test)]
 mod tests;
 mod values;
@@ -18,4 +21,6 @@ pub use laws::{
     a_turn_takes_a_step, any_numbers, no_deeper_calls, nothing_is_given_back, steps_only_fall,
 };
 pub use run::plain;
+pub use runner::test_log;
+pub use runner_law::runner_runs_the_phases;
 pub use state::{Ending, Place, Position, State, Stop, Where};

@@ -1,5 +1,8 @@
 //! The log of a test program.
 
+ghost use Rattle.std.specs.Prelude.{◌≡◌, ◌≤◌, IfOk};
+ghost use Rattle.ct_meaning.specs.Program as spec;
+
 use crate::evaluator::call;
 use crate::phases::STEPS_OUTSIDE;
 use crate::program::Program;
@@ -12,7 +15,10 @@ use ct_report::RunLog;
 use std::alloc::Global;
 
 /// The log of the units: their `main` is run, with the budget of steps for each test.
-pub fn plain(alloc: Global, units: &[CoreUnit], table: &LinkTable, budget: u64) -> Mem<RunLog> {
+pub fn plain(alloc: Global, units: &[CoreUnit], table: &LinkTable, budget: u64) -> Mem<RunLog>
+    requires budget { (1 ≤ budget) × (budget ≤ 10000000) }
+    ensures { IfOk result (λ log. log ≡ spec.log_of (spec.plain_world units.now table.now.functions budget)) }
+{
     let program = Program {
         alloc,
         units,
