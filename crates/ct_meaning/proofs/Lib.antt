@@ -9,10 +9,13 @@ pub mod Positions
 pub mod Related
 pub mod RunnerCalls
 pub mod RunnerKin
+pub mod RunnerNames
+pub mod RunnerPhases
 pub mod RunnerRules
 pub mod RunnerValues
 pub mod Spends
 pub mod Steps
 pub mod Strings
+pub mod Tables
 pub mod ToolMemory
 pub mod Verdicts

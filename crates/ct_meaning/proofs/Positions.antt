@@ -10,7 +10,7 @@ pub data Placed {X : Type 0} (p : X → Bool) (xs : List X) : Option ℕ → Typ
   Found : (k : ℕ) (x : X) → slice_get xs k ≡ Some x → p x ≡ true → Placed p xs (Some k)
   Nowhere : ((k : ℕ) (x : X) → slice_get xs k ≡ Some x → p x ≡ false) → Placed p xs None
 
-found_passes : {X : Type 0} (p : X → Bool) (xs : List X) (x : X) → find p xs ≡ Some x → p x ≡ true
+pub found_passes : {X : Type 0} (p : X → Bool) (xs : List X) (x : X) → find p xs ≡ Some x → p x ≡ true
 found_passes {X} p [] x e = absurd (none-some x e)
 found_passes {X} p (y ∷ xs) x e = at (p y) refl (found_passes p xs x) e
   where
