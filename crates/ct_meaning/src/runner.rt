@@ -135,6 +135,7 @@ fn main_function(alloc: Global, functions: &[CoreFunction]) -> Mem<CoreFunction>
 }
 
 /// The statements of `main`.
+#[tactic(auto, using(crate::proofs::RunnerTests::test_next, crate::proofs::RunnerTests::no_test_next))]
 fn all_statements(alloc: Global, functions: &[CoreFunction]) -> Mem<Items<CoreStatement>>
     ensures { IfOk result (λ all. all ≡ spec.all_statements 0 (tests_in functions.now)) }
 {
@@ -142,7 +143,7 @@ fn all_statements(alloc: Global, functions: &[CoreFunction]) -> Mem<Items<CoreSt
     let mut text = 0;
     for f in functions {
         if is_test(f) {
-            push_test(alloc, &mut all, text, f)?;
+            all.append(test_statements(alloc, text, f)?)?;
             text = next(text)?;
         }
     }
@@ -159,6 +160,7 @@ fn next(number: u32) -> Mem<u32>
 }
 
 /// The names of the tests among these functions.
+#[tactic(auto, using(crate::proofs::RunnerTests::test_next, crate::proofs::RunnerTests::no_test_next))]
 fn test_names(alloc: Global, functions: &[CoreFunction]) -> Mem<Items<Bytes>>
     ensures { IfOk result (λ names. names ≡ map (λ test. test.0) (tests_in functions.now)) }
 {
@@ -202,22 +204,19 @@ fn has_test_name(name: &[u8]) -> bool
         || name.starts_with(b"should".as_slice())
 }
 
-/// Adds the statements of a test, whose name is this text.
-fn push_test(
-    alloc: Global,
-    body: &mut Items<CoreStatement>,
-    text: u32,
-    test: &CoreFunction,
-) -> Mem<()>
-    ensures { OnOk result (body.new ≡ body.old ++ spec.test_statements text test.now.name test.now.span.line) }
+/// The statements of a test, whose name is this text.
+fn test_statements(alloc: Global, text: u32, test: &CoreFunction) -> Mem<Items<CoreStatement>>
+    ensures { IfOk result (λ all. all ≡ spec.test_statements text test.now.name test.now.span.line) }
 {
-    body.push(begin_test(alloc, text, test.span.line)?)?;
-    body.push(run_call(alloc, b"setUp".as_slice())?)?;
-    body.push(run_call(alloc, test.name.as_slice())?)?;
-    body.push(run_phase(alloc)?)?;
-    body.push(run_call(alloc, b"tearDown".as_slice())?)?;
-    body.push(run_end(alloc)?)?;
-    Ok(())
+    let all = vec![in alloc;
+        begin_test(alloc, text, test.span.line)?,
+        run_call(alloc, b"setUp".as_slice())?,
+        run_call(alloc, test.name.as_slice())?,
+        run_phase(alloc)?,
+        run_call(alloc, b"tearDown".as_slice())?,
+        run_end(alloc)?,
+    ]?;
+    Ok(Items::from_vec(all))
 }
 
 /// The statement `ceedling_run_test(TEXT, LINE);`.

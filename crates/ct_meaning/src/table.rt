@@ -1,6 +1,6 @@
 //! The table of a program's definitions.
 
-ghost use Rattle.std.specs.Prelude.{◌≡◌, ◌++◌, ◌∷◌, [], IfOk, OnOk};
+ghost use Rattle.std.specs.Prelude.{◌≡◌, ◌++◌, IfOk, OnOk};
 ghost use Rattle.ct_meaning.specs.Table.{table_of, definitions_in, built_in_definitions};
 
 use ct_base::{Bytes, Items, Mem, OutOfMemory};
@@ -8,6 +8,7 @@ use ct_core::{CoreUnit, Definition, LinkTable};
 use std::alloc::Global;
 
 /// The definitions of the functions of the units, and then those of the built-in functions.
+#[tactic(auto, using(crate::proofs::RunnerTests::number_next), unfolding(crate::specs::Table::table_of))]
 pub fn table(alloc: Global, units: &[CoreUnit]) -> Mem<LinkTable>
     ensures { IfOk result (λ made. made.functions ≡ table_of units.now) }
 {
@@ -15,11 +16,12 @@ pub fn table(alloc: Global, units: &[CoreUnit]) -> Mem<LinkTable>
     for (number, unit) in units.iter().enumerate() {
         push_unit(alloc, &mut functions, number, unit)?;
     }
-    push_built_ins(alloc, &mut functions, units.len())?;
+    functions.append(built_ins(alloc, units.len())?)?;
     Ok(LinkTable { functions })
 }
 
 /// Adds the definitions of a unit.
+#[tactic(auto, using(crate::proofs::RunnerTests::number_next))]
 fn push_unit(
     alloc: Global,
     all: &mut Items<Definition>,
@@ -29,38 +31,28 @@ fn push_unit(
     ensures { OnOk result (all.new ≡ all.old ++ definitions_in (number, unit.now)) }
 {
     for (place, f) in unit.functions.as_slice().iter().enumerate() {
-        define(alloc, all, f.name.as_slice(), number, place)?;
+        all.push(definition(alloc, f.name.as_slice(), number, place)?)?;
     }
     Ok(())
 }
 
-/// Adds the definitions of the built-in functions.
-fn push_built_ins(alloc: Global, all: &mut Items<Definition>, unit: usize) -> Mem<()>
-    ensures { OnOk result (all.new ≡ all.old ++ built_in_definitions unit) }
+/// The definitions of the built-in functions.
+fn built_ins(alloc: Global, unit: usize) -> Mem<Items<Definition>>
+    ensures { IfOk result (λ all. all ≡ built_in_definitions unit) }
 {
-    define(
-        alloc,
-        all,
-        b"ceedling_assert_TEST_ASSERT_EQUAL_INT".as_slice(),
-        unit,
-        0,
-    )?;
-    define(alloc, all, b"ceedling_run_call".as_slice(), unit, 1)?;
-    define(alloc, all, b"ceedling_run_end".as_slice(), unit, 2)?;
-    define(alloc, all, b"ceedling_run_phase".as_slice(), unit, 3)?;
-    define(alloc, all, b"ceedling_run_test".as_slice(), unit, 4)?;
-    Ok(())
+    let all = vec![in alloc;
+        definition(alloc, b"ceedling_assert_TEST_ASSERT_EQUAL_INT".as_slice(), unit, 0)?,
+        definition(alloc, b"ceedling_run_call".as_slice(), unit, 1)?,
+        definition(alloc, b"ceedling_run_end".as_slice(), unit, 2)?,
+        definition(alloc, b"ceedling_run_phase".as_slice(), unit, 3)?,
+        definition(alloc, b"ceedling_run_test".as_slice(), unit, 4)?,
+    ]?;
+    Ok(Items::from_vec(all))
 }
 
-/// Adds a definition.
-fn define(
-    alloc: Global,
-    all: &mut Items<Definition>,
-    name: &[u8],
-    unit: usize,
-    place: usize,
-) -> Mem<()>
-    ensures { OnOk result (all.new ≡ all.old ++ record { name = name.now; unit = unit; place = place } ∷ []) }
+/// The definition of a function at a place of a unit.
+fn definition(alloc: Global, name: &[u8], unit: usize, place: usize) -> Mem<Definition>
+    ensures { IfOk result (λ made. made ≡ record { name = name.now; unit = unit; place = place }) }
 {
     let Ok(unit) = u32::try_from(unit) else {
         return Err(OutOfMemory);
@@ -69,6 +61,5 @@ fn define(
         return Err(OutOfMemory);
     };
     let name = Bytes::from_slice(alloc, name)?;
-    all.push(Definition { name, unit, place })?;
-    Ok(())
+    Ok(Definition { name, unit, place })
 }
