@@ -12,7 +12,7 @@ pub mod RunnerKin
 pub mod RunnerNames
 pub mod RunnerPhases
 pub mod RunnerRules
-pub mod RunnerTests
+pub mod RunnerMade
 pub mod RunnerValues
 pub mod Spends
 pub mod Steps

@@ -144,22 +144,18 @@ stands n (x ∷ xs) k d h =
 
 -- ---- the built-in functions
 
+abbrev IsRow : ℕ → Row → Type 0
+IsRow j row = (built_in_of row.0 ≡ Some row.1) × (position (λ (r : Row). bytes_eq r.0 row.0) built_in_rows ≡ Some j)
+
 -- the row of a built-in function stands for it, and is the only one of its name
-row_is : (j : ℕ) (row : Row) → slice_get built_in_rows j ≡ Some row
-    → (built_in_of row.0 ≡ Some row.1) × (position (λ (r : Row). bytes_eq r.0 row.0) built_in_rows ≡ Some j)
+row_is : (j : ℕ) (row : Row) → slice_get built_in_rows j ≡ Some row → IsRow j row
 unfolding built_in_of
-row_is j row h = at j h
-  where
-    abbrev Is : ℕ → Row → Type 0
-    Is j row = (built_in_of row.0 ≡ Some row.1) × (position (λ (r : Row). bytes_eq r.0 row.0) built_in_rows ≡ Some j)
-    at : (j : ℕ) → slice_get built_in_rows j ≡ Some row → Is j row
-    unfolding built_in_of
-    at zero h = subst (Is 0) (same_Some _ row h) (refl, refl)
-    at (suc zero) h = subst (Is 1) (same_Some _ row h) (refl, refl)
-    at (suc (suc zero)) h = subst (Is 2) (same_Some _ row h) (refl, refl)
-    at (suc (suc (suc zero))) h = subst (Is 3) (same_Some _ row h) (refl, refl)
-    at (suc (suc (suc (suc zero)))) h = subst (Is 4) (same_Some _ row h) (refl, refl)
-    at (suc (suc (suc (suc (suc j))))) h = absurd (none-some row h)
+row_is zero row h = subst (IsRow 0) (same_Some _ row h) (refl, refl)
+row_is (suc zero) row h = subst (IsRow 1) (same_Some _ row h) (refl, refl)
+row_is (suc (suc zero)) row h = subst (IsRow 2) (same_Some _ row h) (refl, refl)
+row_is (suc (suc (suc zero))) row h = subst (IsRow 3) (same_Some _ row h) (refl, refl)
+row_is (suc (suc (suc (suc zero)))) row h = subst (IsRow 4) (same_Some _ row h) (refl, refl)
+row_is (suc (suc (suc (suc (suc j))))) row h = absurd (none-some row h)
 
 record Offer (name : List ℕ) : Type 0 where
   place : ℕ

@@ -24,3 +24,4 @@ pub use run::plain;
 pub use runner::test_log;
 pub use runner_law::runner_runs_the_phases;
 pub use state::{Ending, Place, Position, State, Stop, Where};
+pub use table::a_table_in_order_is_linked;

@@ -135,7 +135,7 @@ fn main_function(alloc: Global, functions: &[CoreFunction]) -> Mem<CoreFunction>
 }
 
 /// The statements of `main`.
-#[tactic(auto, using(crate::proofs::RunnerTests::test_next, crate::proofs::RunnerTests::no_test_next))]
+#[tactic(auto, using(crate::proofs::RunnerMade::test_next, crate::proofs::RunnerMade::no_test_next))]
 fn all_statements(alloc: Global, functions: &[CoreFunction]) -> Mem<Items<CoreStatement>>
     ensures { IfOk result (λ all. all ≡ spec.all_statements 0 (tests_in functions.now)) }
 {
@@ -160,7 +160,7 @@ fn next(number: u32) -> Mem<u32>
 }
 
 /// The names of the tests among these functions.
-#[tactic(auto, using(crate::proofs::RunnerTests::test_next, crate::proofs::RunnerTests::no_test_next))]
+#[tactic(auto, using(crate::proofs::RunnerMade::test_next, crate::proofs::RunnerMade::no_test_next))]
 fn test_names(alloc: Global, functions: &[CoreFunction]) -> Mem<Items<Bytes>>
     ensures { IfOk result (λ names. names ≡ map (λ test. test.0) (tests_in functions.now)) }
 {
@@ -225,12 +225,16 @@ fn begin_test(alloc: Global, text: u32, line: u32) -> Mem<CoreStatement>
 {
     let mut arguments = Items::new(alloc);
     arguments.push(CoreExpression::Text(text))?;
-    arguments.push(CoreExpression::Constant(
-        IntKind::UnsignedInt,
-        i128::from(line),
-    ))?;
+    arguments.push(line_argument(line))?;
     let kind = run_test_type(alloc)?;
     call_statement(alloc, kind, b"ceedling_run_test".as_slice(), arguments)
+}
+
+/// The argument that a line is.
+fn line_argument(line: u32) -> CoreExpression
+    ensures { result ≡ Constant UnsignedInt (pos line) }
+{
+    CoreExpression::Constant(IntKind::UnsignedInt, i128::from(line))
 }
 
 /// The statement `ceedling_run_call(NAME);`.

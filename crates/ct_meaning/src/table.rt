@@ -1,14 +1,16 @@
 //! The table of a program's definitions.
 
-ghost use Rattle.std.specs.Prelude.{◌≡◌, ◌++◌, IfOk, OnOk};
-ghost use Rattle.ct_meaning.specs.Table.{table_of, definitions_in, built_in_definitions};
+ghost use Rattle.std.specs.Prelude.{◌≡◌, ◌++◌, List, IfOk, OnOk};
+ghost use Rattle.ct_core.specs.declared.units.CoreUnit.{CoreUnit};
+ghost use Rattle.ct_meaning.specs.Linked.{IsLinked};
+ghost use Rattle.ct_meaning.specs.Table.{HaveNames, table_of, definitions_in, built_in_definitions};
 
 use ct_base::{Bytes, Items, Mem, OutOfMemory};
 use ct_core::{CoreUnit, Definition, LinkTable};
 use std::alloc::Global;
 
 /// The definitions of the functions of the units, and then those of the built-in functions.
-#[tactic(auto, using(crate::proofs::RunnerTests::number_next), unfolding(crate::specs::Table::table_of))]
+#[tactic(auto, using(crate::proofs::RunnerMade::number_next), unfolding(crate::specs::Table::table_of))]
 pub fn table(alloc: Global, units: &[CoreUnit]) -> Mem<LinkTable>
     ensures { IfOk result (λ made. made.functions ≡ table_of units.now) }
 {
@@ -21,7 +23,7 @@ pub fn table(alloc: Global, units: &[CoreUnit]) -> Mem<LinkTable>
 }
 
 /// Adds the definitions of a unit.
-#[tactic(auto, using(crate::proofs::RunnerTests::number_next))]
+#[tactic(auto, using(crate::proofs::RunnerMade::number_next))]
 fn push_unit(
     alloc: Global,
     all: &mut Items<Definition>,
@@ -63,3 +65,9 @@ fn definition(alloc: Global, name: &[u8], unit: usize, place: usize) -> Mem<Defi
     let name = Bytes::from_slice(alloc, name)?;
     Ok(Definition { name, unit, place })
 }
+
+/// The table of units in which no name of external linkage stands twice, or is that of a built-in
+/// function, links them.
+pub fn a_table_in_order_is_linked()
+    ensures { (units : List CoreUnit) → HaveNames units → IsLinked units (table_of units) }
+{}
