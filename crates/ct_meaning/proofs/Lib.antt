@@ -1,3 +1,5 @@
+pub mod Equations
 pub mod Related
 pub mod Spends
 pub mod Numbers
+pub mod Texts

@@ -6,3 +6,4 @@ pub mod Program
 pub mod Written
 pub mod Runner
 pub mod Views
+pub mod Calling
