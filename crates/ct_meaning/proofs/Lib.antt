@@ -3,3 +3,5 @@ pub mod Related
 pub mod Spends
 pub mod Numbers
 pub mod Texts
+pub mod Frames
+pub mod Strings

@@ -1,15 +1,21 @@
 //! The rules on objects, steps and levels.
 
-ghost use Rattle.std.specs.Prelude.{◌≡◌, ◌+◌, ◌<◌, ◌≤◌, ℕ, IfOk, OnOk, OnSome, List, Ok, Err, length};
+ghost use Rattle.std.specs.Prelude.{◌≡◌, ◌+◌, ◌<◌, IfOk, OnOk, Some, min, max, take, slice_get, unwrap_or};
+ghost use Rattle.ct_core.specs.Access.{end_result};
+ghost use Rattle.ct_core.specs.Memory.{next_pointer};
+ghost use Rattle.ct_core.specs.declared.values.Value.TheVariants.{Object};
+ghost use Rattle.ct_meaning.specs.World.{unit_space, variable_at, object_in, text_count, same_space, text_pointer};
 ghost use Rattle.ct_meaning.specs.Rules as spec;
+ghost use Rattle.ct_meaning.specs.Meaning as meaning;
 ghost use Rattle.ct_meaning.specs.Views.{world_of, where_of, Gives};
 
 use crate::program::Program;
 use crate::state::{Place, Position, State, Stop, Where};
 use crate::values;
-use ct_base::FaultKind;
-use ct_core::{Kind, Mark, Pointer, Scalar, Space, Value, Variable};
-use ct_ctype::{CType, size_of};
+use ct_base::{FaultKind, Items, Mem, OutOfMemory};
+use ct_core::{CoreUnit, Kind, Mark, Pointer, Scalar, Space, Value, Variable};
+use ct_ctype::{CType, Structs, size_of};
+use ct_memory::Memory;
 
 /// How many levels calls may nest.
 pub const LEVEL_LIMIT: u32 = 64;
@@ -97,50 +103,48 @@ impl Program<'_> {
     }
 
     /// The bytes of a new object for a variable.
-    fn variable_bytes(&self, unit: u32, variable: &Variable) -> u32 {
+    fn variable_bytes(&self, unit: u32, variable: &Variable) -> u32
+        ensures { result ≡ spec.object_bytes (spec.structs_of (slice_get (world_of self.now).units unit)) variable.now.kind }
+    {
         match self.units.get(unit as usize) {
             Some(unit) => object_bytes(size_of(&variable.kind, &unit.structs)),
-            None => 1,
+            None => object_bytes(size_of(&variable.kind, &Structs::new(self.alloc))),
         }
     }
 
     /// Makes an object for a variable.
-    fn begin_object(&self, state: &mut State, h: Where<'_>, place: u32) -> Result<Pointer, Stop> {
+    fn begin_object(&self, state: &mut State, h: Where<'_>, place: u32) -> Mem<Pointer>
+        ensures { IfOk result (λ p. (p ≡ next_pointer (unit_space (world_of self.now) h.entry.at.unit) state.old.memory) × (state.new ≡ record state.old { memory = spec.variable_memory (world_of self.now) (where_of h.entry) place (variable_at (world_of self.now) (where_of h.entry) place) state.old.memory })) }
+    {
         let space = self.unit_space(h.at.unit);
         let (bytes, constant) = match self.variable_at(h, place) {
             Some(variable) => (self.variable_bytes(h.at.unit, variable), variable.constant),
             None => (1, false),
         };
         if state.memory.made(space) >= OBJECT_LIMIT {
-            return Err(Stop::OutOfMemory);
+            return Err(OutOfMemory);
         }
-        Ok(
-            state
-                .memory
-                .create(space, Kind::Automatic, place, bytes, constant)?,
-        )
+        state
+            .memory
+            .create(space, Kind::Automatic, place, bytes, constant)
     }
 
     /// Makes the objects of variables, and gives the frame with them.
+    #[tactic(auto, unfolding(crate::specs::Rules::begin_objects))]
     pub fn begin_objects(
         &self,
         state: &mut State,
         h: Where<'_>,
         places: &[u32],
-    ) -> Result<Vec<(u32, Pointer)>, Stop> {
-        let mut frame = Vec::new(self.alloc);
-        for entry in h.frame {
-            if frame.push(*entry).is_err() {
-                return Err(Stop::OutOfMemory);
-            }
-        }
+    ) -> Mem<Items<(u32, Pointer)>>
+        ensures { IfOk result (λ frame. spec.begin_objects (world_of self.now) (where_of h.entry) places.now h.entry.frame.now state.old ≡ (Some frame, state.new)) }
+    {
+        let mut frame = Vec::from_slice(self.alloc, h.frame)?;
         for place in places {
             let p = self.begin_object(state, h, *place)?;
-            if frame.insert(0, (*place, p)).is_err() {
-                return Err(Stop::OutOfMemory);
-            }
+            frame.insert(0, (*place, p))?;
         }
-        Ok(frame)
+        Ok(Items::from_vec(frame))
     }
 
     /// Takes a step.
@@ -188,23 +192,23 @@ impl Program<'_> {
     }
 
     /// The first byte of a string literal.
-    pub fn literal(&self, unit: u32, text: u32) -> Result<Value, Stop> {
+    pub fn literal(&self, unit: u32, text: u32) -> Mem<Value>
+        ensures { IfOk result (λ v. v ≡ Object (text_pointer (world_of self.now) unit text)) }
+    {
         let space = self.unit_space(unit);
-        let mut number = u64::from(text);
-        for earlier in self.units.iter().take(unit as usize) {
-            if earlier.space == space {
-                number += earlier.texts.len() as u64;
-            }
-        }
+        let earlier = text_count(space, first_of(self.units, unit as usize))?;
         Ok(Value::Object(Pointer {
             space,
-            number,
+            number: sum(earlier, u64::from(text))?,
             offset: 0,
         }))
     }
 
     /// A function by its name.
-    pub fn designator(&self, state: &mut State, h: Where<'_>, name: &[u8]) -> Result<Value, Stop> {
+    #[tactic(auto, unfolding(crate::specs::Rules::designator, crate::specs::Rules::given))]
+    pub fn designator(&self, state: &mut State, h: Where<'_>, name: &[u8]) -> Result<Value, Stop>
+        ensures { Gives (spec.designator (world_of self.now) (where_of h.entry) name.now state.old) result state.new }
+    {
         match self.number_of(h.at.unit, name) {
             Some(number) => match u32::try_from(number) {
                 Ok(number) => Ok(Value::Function(number)),
@@ -215,19 +219,21 @@ impl Program<'_> {
     }
 
     /// Ends the newest objects of a frame.
-    pub fn end_objects(&self, state: &mut State, count: usize, frame: &[(u32, Pointer)]) {
-        for entry in frame.iter().take(count) {
-            let _ = state.memory.end(entry.1);
-        }
+    #[tactic(auto, unfolding(crate::specs::Rules::end_objects))]
+    pub fn end_objects(&self, state: &mut State, count: usize, frame: &[(u32, Pointer)])
+        ensures { state.new ≡ spec.end_objects count frame.now state.old }
+    {
+        end_all(&mut state.memory, first_of(frame, count));
     }
 
     /// The places of a function's parameters.
-    pub fn places(&self, count: u32) -> Result<Vec<u32>, Stop> {
-        let mut places = Vec::new(self.alloc);
+    #[tactic(auto, using(crate::proofs::Frames::places_more))]
+    pub fn places(&self, count: u32) -> Mem<Items<u32>>
+        ensures { IfOk result (λ places. places ≡ meaning.places_from 0 count) }
+    {
+        let mut places = Items::new(self.alloc);
         for place in 0..count {
-            if places.push(place).is_err() {
-                return Err(Stop::OutOfMemory);
-            }
+            places.push(place)?;
         }
         Ok(places)
     }
@@ -239,23 +245,82 @@ impl Program<'_> {
         h: Where<'_>,
         place: u32,
         v: &Value,
-    ) -> Result<(), Stop> {
+    ) -> Result<Value, Stop>
+        ensures { Gives (meaning.initialise_parameter (world_of self.now) (where_of h.entry) place v.now (meaning.scalar_of_variable (variable_at (world_of self.now) (where_of h.entry) place)) state.old) result state.new }
+    {
         let scalar = match self.variable_at(h, place) {
             Some(variable) => scalar_of(&variable.kind),
             None => None,
         };
         match scalar {
-            Some(t) => {
-                self.initialise(state, h, place, t, v)?;
-                Ok(())
-            }
+            Some(t) => self.initialise(state, h, place, t, v),
             None => Err(self.stop(state, h, FaultKind::BadCall)),
         }
     }
 }
 
+/// So many elements from the first on, or all where there are fewer.
+fn first_of<T>(items: &[T], count: usize) -> &[T]
+    ensures { result.now ≡ take count items.now }
+{
+    if count < items.len() {
+        &items[..count]
+    } else {
+        items
+    }
+}
+
+/// Ends objects, where the pointers are to the begin of one.
+fn end_all(memory: &mut Memory, objects: &[(u32, Pointer)])
+    ensures { memory.new ≡ spec.without_objects objects.now memory.old }
+{
+    for object in objects {
+        end(memory, object.1);
+    }
+}
+
+/// Ends an object, where a pointer is to the begin of one.
+fn end(memory: &mut Memory, at: Pointer)
+    ensures { memory.new ≡ spec.result_or (end_result at memory.old) memory.old }
+{
+    match memory.end(at) {
+        Ok(()) | Err(_) => {}
+    }
+}
+
+/// How many string literals these units have in a space.
+fn text_count(space: Space, units: &[CoreUnit]) -> Mem<u64>
+    ensures { IfOk result (λ count. count ≡ text_count space units.now) }
+{
+    let mut count = 0;
+    for unit in units {
+        if same_space(unit.space, space) {
+            count = sum(count, unit.texts.len() as u64)?;
+        }
+    }
+    Ok(count)
+}
+
+fn same_space(a: Space, b: Space) -> bool
+    ensures { result ≡ same_space a b }
+{
+    matches!(
+        (a, b),
+        (Space::Project, Space::Project) | (Space::Tool, Space::Tool)
+    )
+}
+
+/// The sum of two numbers, where it can be represented.
+fn sum(a: u64, b: u64) -> Mem<u64>
+    ensures { IfOk result (λ total. total ≡ a + b) }
+{
+    a.checked_add(b).ok_or(OutOfMemory)
+}
+
 /// The object of a variable, where it exists.
-pub fn pointer_of(frame: &[(u32, Pointer)], place: u32) -> Option<Pointer> {
+pub fn pointer_of(frame: &[(u32, Pointer)], place: u32) -> Option<Pointer>
+    ensures { result ≡ object_in frame.now place }
+{
     let entry = frame.iter().find(|entry| entry.0 == place)?;
     Some(entry.1)
 }
@@ -269,7 +334,10 @@ fn address_in(frame: &[(u32, Pointer)], place: u32) -> Result<Value, FaultKind>
     }
 }
 
-fn object_bytes(size: Option<u64>) -> u32 {
+/// The bytes of an object whose type has this size, from 1 to 1 MiB.
+fn object_bytes(size: Option<u64>) -> u32
+    ensures { result ≡ max 1 (min 1048576 (unwrap_or size 1)) }
+{
     match size {
         Some(size) => size.clamp(1, 1_048_576) as u32,
         None => 1,
@@ -277,7 +345,9 @@ fn object_bytes(size: Option<u64>) -> u32 {
 }
 
 /// The scalar type that an object's type is.
-fn scalar_of(t: &CType) -> Option<Scalar> {
+fn scalar_of(t: &CType) -> Option<Scalar>
+    ensures { result ≡ spec.scalar_of t.now }
+{
     match t {
         CType::Int(k) => Some(Scalar::Int(*k)),
         CType::Void
