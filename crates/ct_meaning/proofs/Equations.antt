@@ -12,18 +12,21 @@ use Rattle.ct_ctype.specs.declared.kinds.IntKind.{IntKind}
 use Rattle.ct_ctype.specs.declared.types.FunctionType.{FunctionType}
 use Rattle.ct_core.specs.declared.objects.Scalar.{Scalar}
 use Rattle.ct_core.specs.declared.values.Value.{Value}
-use Rattle.ct_core.specs.declared.values.Value.TheVariants.{Int}
+use Rattle.ct_core.specs.declared.values.Value.TheVariants.{Int, Void}
+use Rattle.ct_base.specs.declared.faults.FaultKind.TheVariants.{StepBudget}
+use Rattle.ct_core.specs.declared.built_ins.BuiltIn.{BuiltIn}
+use Rattle.ct_core.specs.declared.units.CoreFunction.{CoreFunction}
 use Rattle.ct_core.specs.declared.trees.Mark.{Mark}
 use Rattle.ct_core.specs.declared.trees.CoreExpression.TheOpen.{CoreExpression-F}
 use Rattle.ct_core.specs.declared.trees.CoreStatement.TheOpen.{CoreStatement-F}
 use Rattle.ct_core.specs.declared.trees.CoreExpression.TheVariants.{Constant, Variable, Text, Function, Load, Assign, Convert, Binary, Call, outs-Constant, outs-Variable, outs-Text, outs-Function, outs-Load, outs-Assign, outs-Convert, outs-Binary, outs-Call}
 use Rattle.ct_core.specs.declared.trees.CoreStatement.TheVariants.{Run, Block, Declare, If, While, Return, outs-Run, outs-Block, outs-Declare, outs-If, outs-While, outs-Return}
-use Rattle.ct_meaning.specs.declared.state.Ending.TheVariants.{Onward}
-use Rattle.ct_meaning.specs.Rules.{apply_binary, apply_conversion, variable, literal, designator, load, store, begun}
+use Rattle.ct_meaning.specs.declared.state.Ending.TheVariants.{Onward, Returned}
+use Rattle.ct_meaning.specs.Rules.{failed, apply_binary, apply_conversion, variable, literal, designator, load, store, begun}
 use Rattle.ct_meaning.specs.Doing.{Does, Outcome, onwards, ◌>>=◌, pure, each, each_onto}
-use Rattle.ct_meaning.specs.World.{World, Where, variable_at}
+use Rattle.ct_meaning.specs.World.{World, Where, Target, Defined, Given, target_of, variable_at}
 use Rattle.ct_meaning.specs.Views.{Gives}
-use Rattle.ct_meaning.specs.Meaning.{Calls, Evaluates, Executes, used_value, apply_call, within, in_turn, then_go, holds, turns, otherwise, declare, return_of, initialise_parameter, initialise_parameters, scalar_of_variable, expression, expression_step, statement, statement_step}
+use Rattle.ct_meaning.specs.Meaning.{Calls, Evaluates, Executes, used_value, apply_call, within, in_turn, then_go, holds, turns, otherwise, declare, return_of, initialise_parameter, initialise_parameters, scalar_of_variable, defined_body, body_of, calls, expression, expression_step, statement, statement_step}
 
 pub expression_out : (w : World) (call : Calls) (e : CoreExpression) → expression w call e ≡ expression_step w call (map-CoreExpression CoreExpression Evaluates (expression w call) (out-CoreExpression e))
 unfolding expression
@@ -124,14 +127,49 @@ pub turn_at : (h : Where) (part : CoreStatement → Executes) (all : List CoreSt
     → in_turn h (map part (drop i all)) s ≡ onwards (part b h s) (λ flow. then_go flow (in_turn h (map part (drop (i + 1) all))))
 turn_at h part all i b s lt is = ap (λ (l : List CoreStatement). in_turn h (map part l) s) (next_at all i b lt is)
 
-pub parameters_at : (w : World) (h : Where) (values : List Value) (i : ℕ) (v : Value) (s : State) → i < length values → v ≡ get_or values i v
-    → initialise_parameters w h i (drop i values) s ≡ onwards (initialise_parameter w h i v (scalar_of_variable (variable_at w h i)) s) (λ _. initialise_parameters w h (i + 1) (drop (i + 1) values))
+pub parameters_at : (w : World) (h : Where) (values : List Value) (place i : ℕ) (v : Value) (s : State) → i < length values → v ≡ get_or values i v
+    → initialise_parameters w h place (drop i values) s ≡ onwards (initialise_parameter w h place v (scalar_of_variable (variable_at w h place)) s) (λ _. initialise_parameters w h (place + 1) (drop (i + 1) values))
 unfolding initialise_parameters
-parameters_at w h values i v s lt is =
-    let next : suc i ≡ i + 1 = omega arith in
-    ap (λ (l : List Value). initialise_parameters w h i l s) (next_at values i v lt is)
-    ∙ ap (λ (n : ℕ). onwards (initialise_parameter w h i v (scalar_of_variable (variable_at w h i)) s) (λ _. initialise_parameters w h n (drop (i + 1) values))) next
+parameters_at w h values place i v s lt is =
+    let next : suc place ≡ place + 1 = omega arith in
+    ap (λ (l : List Value). initialise_parameters w h place l s) (next_at values i v lt is)
+    ∙ ap (λ (n : ℕ). onwards (initialise_parameter w h place v (scalar_of_variable (variable_at w h place)) s) (λ _. initialise_parameters w h n (drop (i + 1) values))) next
 
-pub parameters_end : (w : World) (h : Where) (values : List Value) (i : ℕ) (s : State) → length values ≤ i → initialise_parameters w h i (drop i values) s ≡ (Some tt, s)
+pub parameters_end : (w : World) (h : Where) (values : List Value) (place i : ℕ) (s : State) → length values ≤ i → initialise_parameters w h place (drop i values) s ≡ (Some tt, s)
 unfolding initialise_parameters
-parameters_end w h values i s past = ap (λ (l : List Value). initialise_parameters w h i l s) (drop_all i values past)
+parameters_end w h values place i s past = ap (λ (l : List Value). initialise_parameters w h place l s) (drop_all i values past)
+
+-- ---- statements with and without an expression
+
+pub statement_declares : (w : World) (n : ℕ) (call : Calls) (mark : Mark) (place : ℕ) (t : Scalar) (e : CoreExpression) (h : Where) (s : State) → statement w n call (Declare mark place t (Some e)) h s ≡ declare w (begun w h mark) place t (Some (expression w call e)) s
+statement_declares w n call mark place t e h s = statement_declare w n call mark place t (Some e) h s
+
+pub statement_declares_nothing : (w : World) (n : ℕ) (call : Calls) (mark : Mark) (place : ℕ) (t : Scalar) (h : Where) (s : State) → statement w n call (Declare mark place t None) h s ≡ (Some Onward, s)
+statement_declares_nothing w n call mark place t h s = statement_declare w n call mark place t None h s
+
+pub statement_returns : (w : World) (n : ℕ) (call : Calls) (mark : Mark) (e : CoreExpression) (h : Where) (s : State) → statement w n call (Return mark (Some e)) h s ≡ return_of w (begun w h mark) (Some (expression w call e)) s
+statement_returns w n call mark e h s = statement_return w n call mark (Some e) h s
+
+pub statement_returns_nothing : (w : World) (n : ℕ) (call : Calls) (mark : Mark) (h : Where) (s : State) → statement w n call (Return mark None) h s ≡ (Some (Returned Void), s)
+statement_returns_nothing w n call mark h s = statement_return w n call mark None h s
+
+-- ---- calls
+
+pub calls_zero : (w : World) (n number : ℕ) (values : List Value) (h : Where) (s : State) → n ≡ 0 → calls w n number values h s ≡ (None, failed w h StepBudget s)
+unfolding calls
+calls_zero w n number values h s none = ap (λ (k : ℕ). calls w k number values h s) none
+
+calls_target : (w : World) (n number : ℕ) (values : List Value) (h : Where) (s : State) (t : Option Target) → 0 < n → target_of w number ≡ t → calls w n number values h s ≡ body_of w (n - 1) (calls w (n - 1)) t values h s
+unfolding calls
+calls_target w n number values h s t some is =
+    deeper (λ (k : ℕ). calls w k number values h s) n some ∙ ap (λ (t : Option Target). body_of w (n - 1) (calls w (n - 1)) t values h s) is
+
+pub calls_defined : (w : World) (n number unit place : ℕ) (f : CoreFunction) (values : List Value) (h : Where) (s : State) → 0 < n → target_of w number ≡ Some (Defined unit place f)
+    → calls w n number values h s ≡ defined_body w (n - 1) (calls w (n - 1)) unit place f values h s
+calls_defined w n number unit place f values h s some is = calls_target w n number values h s (Some (Defined unit place f)) some is
+
+pub calls_given : (w : World) (n number : ℕ) (b : BuiltIn) (values : List Value) (h : Where) (s : State) → 0 < n → target_of w number ≡ Some (Given b) → calls w n number values h s ≡ (Some Onward, s)
+calls_given w n number b values h s some is = calls_target w n number values h s (Some (Given b)) some is
+
+pub calls_none : (w : World) (n number : ℕ) (values : List Value) (h : Where) (s : State) → 0 < n → target_of w number ≡ None → calls w n number values h s ≡ (Some Onward, s)
+calls_none w n number values h s some is = calls_target w n number values h s None some is
