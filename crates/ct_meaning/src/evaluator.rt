@@ -475,8 +475,11 @@ pub fn call(
         let outer = Where { at, frame: &[] };
         return Err(program.stop(state, outer, FaultKind::StepBudget));
     }
-    match program.called(number) {
-        Some(Called::Defined(unit, place, function)) => {
+    let Some(called) = program.called(number) else {
+        return Ok(Ending::Onward);
+    };
+    match called {
+        Called::Defined(unit, place, function) => {
             let at = Position {
                 unit,
                 function: place,
@@ -489,6 +492,6 @@ pub fn call(
             }
             .function(state, at, function, values.as_slice())
         }
-        Some(Called::Given(_)) | None => Ok(Ending::Onward),
+        Called::Given(_) => Ok(Ending::Onward),
     }
 }

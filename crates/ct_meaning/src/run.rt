@@ -6,6 +6,7 @@ ghost use Rattle.ct_meaning.specs.Program as spec;
 ghost use Rattle.ct_meaning.specs.Views.{world_of};
 
 use crate::evaluator::call;
+use crate::objects::OBJECT_LIMIT;
 use crate::phases::STEPS_OUTSIDE;
 use crate::program::Program;
 use crate::state::{Position, State, Stop};
@@ -15,9 +16,6 @@ use ct_ctype::IntKind;
 use ct_memory::Memory;
 use ct_report::RunLog;
 use std::alloc::Global;
-
-/// How many objects a space may have.
-const OBJECT_LIMIT: u64 = 4_398_046_511_104;
 
 /// How many bytes a string literal may have before its zero byte.
 const TEXT_LIMIT: usize = 1_048_575;
@@ -102,8 +100,9 @@ impl Program<'_> {
 fn set_texts(unit: &CoreUnit, memory: &mut Memory) -> Mem<()>
     ensures { OnOk result (memory.new ≡ spec.with_texts unit.now.space 0 unit.now.texts memory.old) }
 {
+    let texts = unit.texts.as_slice();
     let mut place: u32 = 0;
-    for text in unit.texts.as_slice() {
+    for text in texts {
         set_text(unit.space, place, text.as_slice(), memory)?;
         place = place.checked_add(1).ok_or(OutOfMemory)?;
     }
