@@ -29,7 +29,10 @@ set_end (z ∷ xs) x y = ap (λ (l : List _). z ∷ l) (set_end xs x y)
 
 cells_end : (front rest : List Cell) (c d : Cell) → cells_with (length front) (c ∷ []) (front ++ d ∷ rest) ≡ front ++ c ∷ rest
 cells_end [] rest c d = refl
-cells_end (x ∷ front) rest c d = ap (λ (l : List Cell). x ∷ l) (cells_end front rest c d)
+cells_end (x ∷ front) rest c d =
+    let on : suc (length front) + 1 ≡ suc (length front + 1) = omega arith in
+    ap (λ (n : ℕ). take (suc (length front)) (x ∷ (front ++ d ∷ rest)) ++ c ∷ [] ++ drop n (x ∷ (front ++ d ∷ rest))) on
+    ∙ ap (λ (l : List Cell). x ∷ l) (cells_end front rest c d)
 
 -- the object of a string literal that holds these cells
 abbrev pub held : ℕ → List Cell → Object
@@ -46,12 +49,15 @@ object_put Tool o p m offset = ap (λ (objects : List Object). record m { tool =
 after_all : (long offset : ℕ) → offset < long → nat_lt long (offset + 1) ≡ false
 after_all long offset lt = grind (arith, nat_tests)
 
+abbrev even_object : Bool → Object → Result Object FaultKind
+even_object even object = if even then Ok object else Err Misaligned
+
 reached : (space : Space) (number offset place : ℕ) (cells : List Cell) → offset < length cells
     → reached_object (record { space = space; number = number; offset = offset }) (Int UnsignedChar) (Some (held place cells)) ≡ Ok (held place cells)
 reached space number offset place cells lt =
     let even : offset % 1 ≡ 0 = omega arith in
     ap (λ (b : Bool). and_then {A = Object} (if b then Err OutOfBounds else Ok (held place cells)) (aligned_object offset 1)) (after_all (length cells) offset lt)
-    ∙ ap (λ (n : ℕ). if n == 0 then Ok {E = FaultKind} (held place cells) else Err Misaligned) even
+    ∙ ap (λ (n : ℕ). even_object (n == 0) (held place cells)) even
 
 byte_cells : (b : ℕ) → b < 256 → cells_of (Int UnsignedChar) (value.Int (pos b)) ≡ Byte b ∷ []
 byte_cells b lt =
