@@ -141,13 +141,13 @@ impl<
         requires { DoesCalls self.now.program self.now.fuel (F.pre self.now.call) (F.post self.now.call) }
         ensures { Gives (spec.enter (world_of self.now.program) (where_of h.entry) (calls (world_of self.now.program) self.now.fuel) number values state.old) result state.new }
     {
-        self.program.check_level(state, h)?;
-        self.program.take_step(state, h)?;
+        let program = &self.program;
+        program.check_level(state, h)?;
+        program.take_step(state, h)?;
         let at = Position {
             level: h.at.level + 1,
             ..h.at
         };
-        let program = &self.program;
         match (self.call)(
             program.alloc,
             program.units,

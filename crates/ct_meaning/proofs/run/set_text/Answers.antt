@@ -1,4 +1,7 @@
-use Rattle.std.proofs.Common.{◌≡◌, ℕ, ℤ, ◌+◌, ◌<◌, pos, length, get_or, ap, ◌∙◌, Ok, arith}
+use Rattle.std.proofs.Common.{◌≡◌, ℕ, ℤ, ◌+◌, ◌<◌, pos, length, get_or, ap, ◌∙◌, Ok, arith, rules}
+use mir.Syntax.{w128}
+use mir.Val.{SFits}
+use Rattle.std.proofs.lemmas.Int.{to_z-of_z}
 use Rattle.ct_ctype.specs.declared.kinds.IntKind.TheVariants.{UnsignedChar}
 use Rattle.ct_core.specs.declared.values.Pointer.{Pointer}
 use Rattle.ct_core.specs.declared.values.Value.TheVariants as value
@@ -21,7 +24,9 @@ loop-offset-preserved c =
     let z : c.from.result ≡ pos (get_or c.args.text.now c.loop-offset.offset 0) = c.from.ensures ∙ ap (λ (n : ℕ). pos n) b in
     let small : get_or c.args.text.now c.loop-offset.offset 0 < 256 = omega arith in
     let within : c.loop-offset.offset < length c.args.text.now + 1 = omega arith in
-    let given = ap (λ (p : Pointer). initialise_result (record p { offset = i }) (Int UnsignedChar) (value.Int c.from.result) c.loop-offset.memory) c.in_ok-at.ensures.pointer
+    let fits : SFits w128 c.from.result = search rules in
+    let given = ap (λ (z : ℤ). initialise_result (record c.in_ok-at.at { offset = i }) (Int UnsignedChar) (value.Int z) c.loop-offset.memory) (to_z-of_z w128 c.from.result fits)
+      ∙ ap (λ (p : Pointer). initialise_result (record p { offset = i }) (Int UnsignedChar) (value.Int c.from.result) c.loop-offset.memory) c.in_ok-at.ensures.pointer
       ∙ ap (λ (z : ℤ). initialise_result (record (next_pointer c.args.space m) { offset = i }) (Int UnsignedChar) (value.Int z) c.loop-offset.memory) z
       ∙ ap (λ (before : Memory). initialise_result (record (next_pointer c.args.space m) { offset = i }) (Int UnsignedChar) (value.Int (pos (get_or bytes i 0))) before) c.loop-offset.invariant
       ∙ stored_more c.args.space c.args.place i bytes m within small in
