@@ -390,12 +390,19 @@ impl<
         &self,
         state: &mut State,
         at: Position,
+        unit: u32,
+        place: u32,
         function: &CoreFunction,
         values: &[Value],
     ) -> Result<Ending, Stop>
         requires { DoesCalls self.now.program self.now.fuel (F.pre self.now.call) (F.post self.now.call) }
-        ensures { Gives (spec.defined_body (world_of self.now.program) self.now.fuel (calls (world_of self.now.program) self.now.fuel) at.unit at.function function.now values.now (position_of at []) state.old) result state.new }
+        ensures { Gives (spec.defined_body (world_of self.now.program) self.now.fuel (calls (world_of self.now.program) self.now.fuel) unit place function.now values.now (position_of at []) state.old) result state.new }
     {
+        let at = Position {
+            unit,
+            function: place,
+            ..at
+        };
         let outer = Where { at, frame: &[] };
         let places = self.program.places(function.parameters)?;
         let frame = self
@@ -480,17 +487,12 @@ pub fn call(
     };
     match called {
         Called::Defined(unit, place, function) => {
-            let at = Position {
-                unit,
-                function: place,
-                ..at
-            };
-            Evaluator {
+            let evaluator = Evaluator {
                 program,
                 fuel: fuel - 1,
                 call,
-            }
-            .function(state, at, function, values.as_slice())
+            };
+            evaluator.function(state, at, unit, place, function, values.as_slice())
         }
         Called::Given(_) => Ok(Ending::Onward),
     }
