@@ -1,5 +1,5 @@
 -- Lists of places and objects, one after another.
-use Rattle.std.proofs.Common.{◌≡◌, ℕ, zero, suc, ◌+◌, List, [], ◌∷◌, ◌++◌, refl, sym, ap, ◌∙◌, arith, add-one}
+use Rattle.std.proofs.Common.{◌≡◌, ℕ, zero, suc, ◌+◌, List, [], ◌∷◌, ◌++◌, sym, ap, ◌∙◌, arith, add-one}
 use Rattle.ct_meaning.specs.Meaning.{places_from}
 
 places_last : (start n : ℕ) → places_from start (suc n) ≡ places_from start n ++ (start + n) ∷ []

@@ -1,5 +1,6 @@
 pub mod AllNames
 pub mod During
+pub mod Equations
 pub mod Frames
 pub mod Goes
 pub mod Levels
@@ -9,14 +10,15 @@ pub mod Positions
 pub mod Related
 pub mod RunnerCalls
 pub mod RunnerKin
+pub mod RunnerMade
 pub mod RunnerNames
 pub mod RunnerPhases
 pub mod RunnerRules
-pub mod RunnerMade
 pub mod RunnerValues
 pub mod Spends
 pub mod Steps
 pub mod Strings
 pub mod Tables
+pub mod Texts
 pub mod ToolMemory
 pub mod Verdicts

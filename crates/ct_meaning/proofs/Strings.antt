@@ -1,5 +1,5 @@
 -- A string, byte by byte.
-use Rattle.std.proofs.Common.{◌≡◌, ℕ, zero, suc, ◌+◌, ◌-◌, ◌%◌, ◌==◌, ◌<◌, ◌≤◌, Bool, true, false, nat_lt, List, [], ◌∷◌, ◌++◌, length, take, drop, get_or, Option, Some, None, Result, Ok, Err, refl, sym, ap, subst, ◌∙◌, arith, add-one, append_assoc, ltb-true, ne_eqb}
+use Rattle.std.proofs.Common.{◌≡◌, ℕ, zero, suc, ◌+◌, ◌-◌, ◌==◌, ◌<◌, ◌≤◌, Bool, true, false, nat_lt, List, [], ◌∷◌, ◌++◌, length, take, drop, get_or, Option, Some, None, Result, Ok, Err, refl, sym, ap, ◌∙◌, arith, add-one, append_assoc, ltb-true, ne_eqb}
 use Rattle.std.specs.Prelude.{if◌then◌else◌, slice_get, slice_range, option_and_then}
 use Rattle.std.proofs.Math.ListN.{drop_of_length-le}
 use Rattle.std.proofs.Math.Seq.{drop-cons}
@@ -7,17 +7,16 @@ use Rattle.std.proofs.Math.Nat.{mod-one}
 use Rattle.std.proofs.lemmas.Bool.{ltb-false, le-ltb, lt-ltb}
 use Rattle.std.proofs.lemmas.Option.{slice_get_within, get_or_from_slice_get, slice_get-get_or}
 use Rattle.ct_base.specs.declared.faults.FaultKind.{FaultKind}
-use Rattle.ct_base.specs.declared.faults.FaultKind.TheVariants.{DeadObject, OutOfBounds, Misaligned, Uninitialised, PointerBytes}
+use Rattle.ct_base.specs.declared.faults.FaultKind.TheVariants.{DeadObject, OutOfBounds}
 use Rattle.ct_ctype.specs.declared.kinds.IntKind.TheVariants.{UnsignedChar}
 use Rattle.ct_core.specs.declared.values.Cell.{Cell}
 use Rattle.ct_core.specs.declared.values.Cell.TheVariants.{Byte, Nothing, Part}
 use Rattle.ct_core.specs.declared.values.Pointer.{Pointer}
 use Rattle.ct_core.specs.declared.values.Value.{Value}
 use Rattle.ct_core.specs.declared.objects.Object.{Object}
-use Rattle.ct_core.specs.declared.objects.Scalar.{Scalar}
 use Rattle.ct_core.specs.declared.objects.Scalar.TheVariants.{Int}
 use Rattle.ct_core.specs.Memory.{Memory, object_of, cell_at}
-use Rattle.ct_core.specs.Access.{and_then, byte_of, value_in, live_object, object_with, aligned_object, reached_object, load_result, text_in, string_at}
+use Rattle.ct_core.specs.Access.{and_then, byte_of, value_in, live_object, object_with, aligned_object, load_result, text_in, string_at}
 
 -- what a load of a byte gives, and the string there
 abbrev byte_read : ℕ → Object → Result Value FaultKind

@@ -10,3 +10,4 @@ pub mod Linked
 pub mod Table
 pub mod Views
 pub mod Laws
+pub mod Calling

@@ -21,7 +21,7 @@ use ct_memory::Memory;
 pub const LEVEL_LIMIT: u32 = 64;
 
 /// How many objects a space may have.
-const OBJECT_LIMIT: u64 = 4_398_046_511_104;
+pub const OBJECT_LIMIT: u64 = 4_398_046_511_104;
 
 impl Program<'_> {
     /// The answer of a rule, or its fault.
