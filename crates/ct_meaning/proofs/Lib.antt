@@ -8,3 +8,5 @@ pub mod RunnerValues
 pub mod RunnerRules
 pub mod RunnerKin
 pub mod RunnerCalls
+pub mod RunnerTrees
+pub mod RunnerRun

@@ -121,7 +121,7 @@ module _ (plain written : World) (U N : ℕ → Type 0) (T : List Stored) (count
     target_keeps : (number : ℕ) → N number → (a b : Option Target) → Targets plain U a b
         → Keeps R V n (call_target plain h f (built_in plain h f) number xs a) (call_target written k g (built_in written k g) number ys b)
     target_keeps number reached _ _ (Functions unit place function u names) = keep number xs ys (record { same = refl; safe = reached }) e
-    target_keeps number reached _ _ (Empties unit place name is tool) = keep number xs ys (record { same = refl; safe = reached }) e
+    target_keeps number reached _ _ (Empties unit place name is) = keep number xs ys (record { same = refl; safe = reached }) e
     target_keeps number reached _ _ (BuiltIns b) = built_in_keeps b
     target_keeps number reached _ _ Nothings = rule.stop_keeps plain written U N T count twins V n h k same.call BadCall
 

@@ -44,7 +44,7 @@ use Rattle.ct_meaning.proofs.RunnerValues.{Safe, SameValue, SafeResult, SafeStor
 pub data Targets (plain : World) (U : ℕ → Type 0) : Option Target → Option Target → Type 0 where
   Functions : (unit place : ℕ) (f : CoreFunction) → U unit → statement_names is_ordinary f.body ≡ true
       → Targets plain U (Some (Defined unit place f)) (Some (Defined unit place f))
-  Empties : (unit place : ℕ) (name : List ℕ) → function_at plain unit place ≡ Some (empty_function name) → unit_space plain unit ≡ Tool
+  Empties : (unit place : ℕ) (name : List ℕ) → function_at plain unit place ≡ Some (empty_function name)
       → Targets plain U (Some (Defined unit place (empty_function name))) (Some (Outside Empty))
   BuiltIns : (b : BuiltIn) → Targets plain U (Some (Given b)) (Some (Given b))
   Nothings : Targets plain U None None

@@ -1,3 +1,5 @@
+use Rattle.ct_meaning.proofs.RunnerRun as runner_run
+use Rattle.ct_meaning.proofs.RunnerTrees as runner_trees
 use Rattle.ct_meaning.proofs.RunnerCalls as runner_calls
 use Rattle.ct_meaning.proofs.RunnerKin as runner_kin
 use Rattle.ct_meaning.proofs.RunnerRules as runner_rules
