@@ -10,3 +10,5 @@ pub mod RunnerKin
 pub mod RunnerCalls
 pub mod RunnerTrees
 pub mod RunnerRun
+pub mod RunnerUnit
+pub mod RunnerLink

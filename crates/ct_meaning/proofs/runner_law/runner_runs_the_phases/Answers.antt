@@ -1,3 +1,5 @@
+use Rattle.ct_meaning.proofs.RunnerLink as runner_link
+use Rattle.ct_meaning.proofs.RunnerUnit as runner_units
 use Rattle.ct_meaning.proofs.RunnerRun as runner_run
 use Rattle.ct_meaning.proofs.RunnerTrees as runner_trees
 use Rattle.ct_meaning.proofs.RunnerCalls as runner_calls
