@@ -12,3 +12,4 @@ pub mod RunnerTrees
 pub mod RunnerRun
 pub mod RunnerUnit
 pub mod RunnerLink
+pub mod RunnerTargets

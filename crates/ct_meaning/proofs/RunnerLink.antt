@@ -15,7 +15,7 @@ use Rattle.ct_meaning.proofs.Spends.{first_true, second_true}
 use Rattle.ct_meaning.proofs.Positions.{Placed, Found, Nowhere, placed}
 use Rattle.ct_meaning.proofs.RunnerUnit.{main, set_up, tear_down, functions, of_runner, all_external, side, function_before, function_last, function_past, function_not}
 
-abbrev external_or : Option CoreFunction → Bool
+abbrev pub external_or : Option CoreFunction → Bool
 external_or o = elim o [ Some f ↦ is_external f.linkage | None ↦ true ]
 
 external_true : (o : Option CoreFunction) → ((f : CoreFunction) → o ≡ Some f → is_external f.linkage ≡ true) → external_or o ≡ true
@@ -54,7 +54,7 @@ module _ (units : List CoreUnit) (table : List Definition) (budget : ℕ) (path 
   pub function_runner : (place : ℕ) → function_in all (length units) place ≡ slice_get (functions (tests_in units) (defines units set_up) (defines units tear_down)) place
   function_runner place = function_last units runner place ∙ ap (λ (fs : List CoreFunction). slice_get fs place) runner_functions
 
-  shared_last : (d : Definition) → d.unit ≡ length units → is_common plain d ≡ true
+  pub shared_last : (d : Definition) → d.unit ≡ length units → is_common plain d ≡ true
   shared_last d e =
       external_true (function_in all d.unit d.place) (λ f is.
       all_external (tests_in units) (defines units set_up) (defines units tear_down) f
