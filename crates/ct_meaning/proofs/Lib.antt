@@ -13,3 +13,4 @@ pub mod RunnerRun
 pub mod RunnerUnit
 pub mod RunnerLink
 pub mod RunnerTargets
+pub mod RunnerSteps
