@@ -14,3 +14,4 @@ pub mod RunnerUnit
 pub mod RunnerLink
 pub mod RunnerTargets
 pub mod RunnerSteps
+pub mod RunnerPhases

@@ -1,3 +1,4 @@
+use Rattle.ct_meaning.proofs.RunnerPhases as runner_phases
 use Rattle.ct_meaning.proofs.RunnerSteps as runner_steps
 use Rattle.ct_meaning.proofs.RunnerTargets as runner_targets
 use Rattle.ct_meaning.proofs.RunnerLink as runner_link
