@@ -15,3 +15,5 @@ pub mod RunnerLink
 pub mod RunnerTargets
 pub mod RunnerSteps
 pub mod RunnerPhases
+pub mod RunnerTexts
+pub mod RunnerNames

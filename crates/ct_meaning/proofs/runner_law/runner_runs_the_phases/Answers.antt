@@ -1,3 +1,5 @@
+use Rattle.ct_meaning.proofs.RunnerNames as runner_names
+use Rattle.ct_meaning.proofs.RunnerTexts as runner_texts
 use Rattle.ct_meaning.proofs.RunnerPhases as runner_phases
 use Rattle.ct_meaning.proofs.RunnerSteps as runner_steps
 use Rattle.ct_meaning.proofs.RunnerTargets as runner_targets
