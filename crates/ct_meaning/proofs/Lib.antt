@@ -17,3 +17,4 @@ pub mod RunnerSteps
 pub mod RunnerPhases
 pub mod RunnerTexts
 pub mod RunnerNames
+pub mod RunnerOffers

@@ -22,7 +22,7 @@ external_true : (o : Option CoreFunction) → ((f : CoreFunction) → o ≡ Some
 external_true (Some f) all = all f refl
 external_true None all = refl
 
-both : (a b : Bool) → a ≡ true → b ≡ true → (a && b) ≡ true
+pub both : (a b : Bool) → a ≡ true → b ≡ true → (a && b) ≡ true
 both a b e d = let P : Bool → Type 0 = λ x. (x && b) ≡ true in subst P (sym e) d
 
 -- the function of external linkage that a name means, and its number
