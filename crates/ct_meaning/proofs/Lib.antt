@@ -18,3 +18,4 @@ pub mod RunnerPhases
 pub mod RunnerTexts
 pub mod RunnerNames
 pub mod RunnerOffers
+pub mod Runner

@@ -1,3 +1,4 @@
+use Rattle.ct_meaning.proofs.Runner as runner
 use Rattle.ct_meaning.proofs.RunnerOffers as runner_offers
 use Rattle.ct_meaning.proofs.RunnerNames as runner_names
 use Rattle.ct_meaning.proofs.RunnerTexts as runner_texts
