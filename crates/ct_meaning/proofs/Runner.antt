@@ -19,7 +19,7 @@ use Rattle.ct_report.specs.declared.logs.RunLog.{RunLog}
 use Rattle.ct_meaning.specs.declared.state.State.{State}
 use Rattle.ct_meaning.specs.declared.state.Ending.{Ending}
 use Rattle.ct_meaning.specs.declared.state.Ending.TheVariants.{Onward, Returned}
-use Rattle.ct_meaning.specs.Doing.{Outcome, Does, onwards}
+use Rattle.ct_meaning.specs.Doing.{Outcome, Does, onwards, ◌>>◌}
 use Rattle.ct_meaning.specs.World.{World, Where, Target, Defined, target_of, unit_space, space_of, text_pointer, text_count, common_number}
 use Rattle.ct_meaning.specs.Rules.{path_of, test_file, begun, begun_in, with_test, can_begin, in_test, without_test}
 use Rattle.ct_meaning.specs.Meaning.{Executes, enter, calls, statement, in_turn, then_go, within, body_of, initialise_parameters}
@@ -244,3 +244,55 @@ module _ (units : List CoreUnit) (table : List Definition) (budget : ℕ) (path 
         one_test f tests.0 text stands.0.0 stands.0.1 count t between (omega arith) (all_statements (suc text) (entries fs))
         ∙ all_tests fs (suc text) (count + 1) (ends f t) tests.1 stands.1 (omega arith)
         (record { stopped = next.stopped; counted = next.counted ∙ ap (λ (n : ℕ). n + 1) between.counted; below = next.below })
+
+  -- ---- the whole run
+
+  main_is : function_in (all units table budget path) (length units) place ≡ Some (main_function (tests_in units))
+  main_is = function_runner units table budget path place ∙ (main_at (tests_in units) (defines units set_up) (defines units tear_down)).1
+
+  main_means : (k number : ℕ) (s : State) → target_of P number ≡ Some (Defined (length units) place (main_function (tests_in units)))
+      → calls P (suc k) number [] outermost s ≡ in_turn here (map (statement P k (calls P k)) (all_statements 0 (tests_in units))) s
+  unfolding calls initialise_parameters
+  main_means k number s is =
+      let body : Executes = λ inner. in_turn inner (map (statement P k (calls P k)) (all_statements 0 (tests_in units))) in
+      ap (λ (t : Option Target). body_of P k (calls P k) t [] outermost s) is
+      ∙ within_nothing P here (λ inner. initialise_parameters P inner 0 [] >> statement P k (calls P k) (main_function (tests_in units)).body inner) s
+      ∙ ap (λ (p : Does Ending). p s) (block_means P (calls P k) k unmarked [] (all_statements 0 (tests_in units)) here)
+      ∙ ap (λ (h : Where). within P h [] body s) unplaced
+      ∙ within_nothing P here body s
+
+  main_number_is : (number : ℕ) → common_number P main ≡ Some number → last_state P ≡ (calls P (enough budget) number [] outermost (first_state P)).1
+  unfolding last_state
+  main_number_is number e = ap (λ (o : Option ℕ). last_state_by P o) e
+
+  begins_between : (k : ℕ) → k ≡ 1000 * (budget + 1000002) + 1000001 → Between budget 0 k (first_state W)
+  begins_between k e = record { stopped = refl; counted = refl; below = omega arith }
+
+  few : 0 + length tests ≤ 1000
+  few = let e : length tests ≡ length (filter is_test project.first.functions) = ap (λ (o : Option CoreUnit). length (filter is_test (functions_of o))) project.is_first in let most = project.few in omega arith
+
+  enough_is : (k : ℕ) → k ≡ 1000 * (budget + 1000002) + 1000001 → enough budget ≡ suc k
+  unfolding enough
+  enough_is k e = omega arith
+
+  last_from : (k : ℕ) → k ≡ 1000 * (budget + 1000002) + 1000001 → last_state P ≡ with_tool T (last_written_state W)
+  unfolding last_written_state
+  last_from k e =
+      let found = common_of units table budget path linked main (length units) place (main_function (tests_in units)) main_is refl refl in
+      let target = target_defined units table budget path linked found.number (length units) place (main_function (tests_in units)) found.stands main_is in
+      let above : k ≤ enough budget = let is = enough_is k e in omega arith in
+      main_number_is found.number found.is_number
+      ∙ ap (λ (n : ℕ). (calls P n found.number [] outermost (first_state P)).1) (enough_is k e)
+      ∙ ap (λ (o : Outcome Ending). o.1) (main_means k found.number (first_state P) target)
+      ∙ ap (λ (s : State). (in_turn here (map (statement P k (calls P k)) (all_statements 0 (tests_in units))) s).1) first_same
+      ∙ ap (λ (o : Outcome Ending). o.1)
+      (all_tests k (enough budget) above tests 0 0 (first_state W) (tests_all units table budget path project linked) (standing [] 0 tests) few (begins_between k e))
+
+  last_same : last_state P ≡ with_tool T (last_written_state W)
+  last_same = last_from (1000 * (budget + 1000002) + 1000001) refl
+
+  pub log_same : log_of P ≡ written_log W
+  unfolding log_of written_log
+  log_same =
+      ap (λ (file : List ℕ). record { file = file; tests = (last_state P).log }) same_file
+      ∙ ap (λ (s : State). record { file = test_file W; tests = s.log }) last_same
