@@ -19,3 +19,4 @@ pub mod RunnerTexts
 pub mod RunnerNames
 pub mod RunnerOffers
 pub mod Runner
+pub mod TableInOrder

@@ -24,7 +24,7 @@ use Rattle.ct_meaning.proofs.RunnerTargets.{Reached}
 use Rattle.ct_meaning.proofs.RunnerSteps.{Offers, Means}
 
 -- an element that passes a test
-any_at : {X : Type 0} (p : X → Bool) (xs : List X) → list_any p xs ≡ true → (k : ℕ) × (x : X) × (slice_get xs k ≡ Some x) × (p x ≡ true)
+pub any_at : {X : Type 0} (p : X → Bool) (xs : List X) → list_any p xs ≡ true → (k : ℕ) × (x : X) × (slice_get xs k ≡ Some x) × (p x ≡ true)
 any_at {X} p [] e = cc
 any_at {X} p (x ∷ xs) e = at (p x) refl (any_at p xs) e
   where
