@@ -20,3 +20,4 @@ pub mod RunnerNames
 pub mod RunnerOffers
 pub mod Runner
 pub mod TableInOrder
+pub mod RunnerApart

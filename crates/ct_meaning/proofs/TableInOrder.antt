@@ -38,7 +38,7 @@ of_both {A} (y ∷ xs) ys (suc k) x e = further (of_both xs ys k x e)
     further (Left is) = Left is
     further (Right j at is) = Right j (omega arith) is
 
-any_true : {A : Type 0} (p : A → Bool) (xs : List A) (k : ℕ) (x : A) → slice_get xs k ≡ Some x → p x ≡ true → list_any p xs ≡ true
+pub any_true : {A : Type 0} (p : A → Bool) (xs : List A) (k : ℕ) (x : A) → slice_get xs k ≡ Some x → p x ≡ true → list_any p xs ≡ true
 any_true {A} p [] k x e is = absurd (none-some x e)
 any_true {A} p (y ∷ xs) zero x e is = let P : A → Type 0 = λ z. (p z || list_any p xs) ≡ true in subst P (sym (same_Some y x e)) (let Q : Bool → Type 0 = λ b. (b || list_any p xs) ≡ true in subst Q (sym is) refl)
 any_true {A} p (y ∷ xs) (suc k) x e is = either (p y) (any_true p xs k x e is)
