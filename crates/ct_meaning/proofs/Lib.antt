@@ -21,3 +21,4 @@ pub mod RunnerOffers
 pub mod Runner
 pub mod TableInOrder
 pub mod RunnerApart
+pub mod NameLaws

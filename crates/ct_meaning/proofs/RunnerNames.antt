@@ -1,6 +1,6 @@
 -- What the names in a runner's `main` mean.
 use Rattle.std.proofs.Common.{◌≡◌, ◌≢◌, ◌⊎◌, inl, inr, ℕ, zero, suc, ◌+◌, ◌<◌, ◌≤◌, List, [], ◌∷◌, ◌++◌, length, map, Bool, true, false, cond, ℤ, pos, Option, Some, None, refl, sym, ap, subst, ◌∙◌, arith, le-leb}
-use Rattle.std.specs.Prelude.{slice_get, position, bytes_eq, codes, filter, unwrap_or, ◌&&◌, All, option_and_then, option_map, nat_eq, if◌then◌else◌}
+use Rattle.std.specs.Prelude.{slice_get, position, bytes_eq, codes, filter, unwrap_or, ◌&&◌, ◌||◌, ◌==◌, All, option_and_then, option_map, nat_eq, if◌then◌else◌}
 use Rattle.std.specs.List.{list_any, starts_with}
 use Rattle.std.proofs.lemmas.Option.{none-some, same_Some, slice_get_within}
 use Rattle.std.proofs.lemmas.Slice.Eq.{bytes_eq-Decides}
@@ -28,7 +28,7 @@ pub any_at : {X : Type 0} (p : X → Bool) (xs : List X) → list_any p xs ≡ t
 any_at {X} p [] e = cc
 any_at {X} p (x ∷ xs) e = at (p x) refl (any_at p xs) e
   where
-    at : (b : Bool) → p x ≡ b → (list_any p xs ≡ true → (k : ℕ) × (y : X) × (slice_get xs k ≡ Some y) × (p y ≡ true)) → Rattle.std.specs.Prelude.◌||◌ b (list_any p xs) ≡ true
+    at : (b : Bool) → p x ≡ b → (list_any p xs ≡ true → (k : ℕ) × (y : X) × (slice_get xs k ≡ Some y) × (p y ≡ true)) → (b || list_any p xs) ≡ true
         → (k : ℕ) × (y : X) × (slice_get (x ∷ xs) k ≡ Some y) × (p y ≡ true)
     at true is further e = (0, x, refl, is)
     at false is further e = let there = further e in (suc there.0, there.1, there.2, there.3)
@@ -104,7 +104,7 @@ module _ (units : List CoreUnit) (table : List Definition) (budget : ℕ) (path 
 
   test_name : (f : CoreFunction) → is_test f ≡ true → f.name ≢ main
   test_name f test e =
-      let named : has_test_name f.name ≡ true = second_true _ _ test in
+      let named : has_test_name f.name ≡ true = second_true (is_external f.linkage && is_void f.kind.result && f.parameters == 0) (has_test_name f.name) test in
       let wrong : has_test_name main ≡ true = subst (λ (x : List ℕ). has_test_name x ≡ true) e named in cc
 
   test_external : (f : CoreFunction) → is_test f ≡ true → is_external f.linkage ≡ true
