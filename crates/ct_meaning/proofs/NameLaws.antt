@@ -1,5 +1,5 @@
 -- Which functions each form of expression and statement names.
-use Rattle.std.proofs.Common.{◌≡◌, ℕ, List, map, Bool, true, Option, Some, None, ℤ, refl}
+use Rattle.std.proofs.Common.{◌≡◌, ℕ, List, map, Bool, true, Option, Some, None, ℤ}
 use Rattle.std.specs.Prelude.{◌&&◌, option_map}
 use Rattle.std.specs.List.{list_all}
 use Rattle.ct_base.specs.declared.operators.BinaryOp.{BinaryOp}

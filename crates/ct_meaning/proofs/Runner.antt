@@ -1,6 +1,6 @@
 -- The runner runs the two phases of each test.
-use Rattle.std.proofs.Common.{◌≡◌, ℕ, zero, suc, ◌+◌, ◌*◌, ◌<◌, ◌≤◌, List, [], ◌∷◌, ◌++◌, length, map, take, Bool, true, false, ℤ, pos, Option, Some, None, Ok, refl, sym, ap, subst, ◌∙◌, arith, lt-ltb}
-use Rattle.std.specs.Prelude.{slice_get, codes, filter, unwrap_or, is_none, ◌&&◌, ◌==◌, nat_lt}
+use Rattle.std.proofs.Common.{◌≡◌, ℕ, suc, ◌+◌, ◌*◌, ◌<◌, ◌≤◌, List, [], ◌∷◌, ◌++◌, length, map, take, Bool, true, false, pos, Option, Some, None, Ok, refl, sym, ap, subst, ◌∙◌, arith, lt-ltb}
+use Rattle.std.specs.Prelude.{slice_get, codes, filter, unwrap_or, is_none, ◌&&◌, nat_lt}
 use Rattle.std.proofs.lemmas.Option.{slice_get_within}
 use Rattle.std.proofs.lemmas.List.{take-append-le, take_all}
 use Rattle.ct_core.specs.declared.values.Space.{Space}
@@ -15,7 +15,6 @@ use Rattle.ct_core.specs.declared.units.Definition.{Definition}
 use Rattle.ct_core.specs.Memory.{Memory, no_objects}
 use Rattle.ct_core.specs.Access.{string_at}
 use Rattle.ct_core.specs.Testing.{begun_test}
-use Rattle.ct_report.specs.declared.logs.RunLog.{RunLog}
 use Rattle.ct_meaning.specs.declared.state.State.{State}
 use Rattle.ct_meaning.specs.declared.state.Ending.{Ending}
 use Rattle.ct_meaning.specs.declared.state.Ending.TheVariants.{Onward, Returned}
@@ -23,8 +22,8 @@ use Rattle.ct_meaning.specs.Doing.{Outcome, Does, onwards, ◌>>◌}
 use Rattle.ct_meaning.specs.World.{World, Where, Target, Defined, target_of, unit_space, space_of, text_pointer, text_count, common_number}
 use Rattle.ct_meaning.specs.Rules.{path_of, test_file, begun, begun_in, with_test, can_begin, in_test, without_test}
 use Rattle.ct_meaning.specs.Meaning.{Executes, enter, calls, statement, in_turn, then_go, within, body_of, initialise_parameters}
-use Rattle.ct_meaning.specs.Program.{text_object, with_texts, with_units, first_state, outermost, main_number, left_in, enough, last_state_by, last_state, log_of}
-use Rattle.ct_meaning.specs.Written.{Test, is_test, test_of, functions_of, tests_of, defines, test_state, tests_state, last_written_state, written_log}
+use Rattle.ct_meaning.specs.Program.{text_object, with_texts, with_units, first_state, outermost, left_in, enough, last_state_by, last_state, log_of}
+use Rattle.ct_meaning.specs.Written.{is_test, test_of, functions_of, defines, test_state, tests_state, last_written_state, written_log}
 use Rattle.ct_meaning.specs.Runner.{unmarked, procedure, call_statement, run_call, main_function, all_statements, test_statements, runner_unit}
 use Rattle.ct_meaning.specs.Rules as rule
 use Rattle.ct_meaning.specs.Linked.{IsLinked, IsTestProject, function_in}

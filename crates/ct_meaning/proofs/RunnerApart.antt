@@ -1,5 +1,5 @@
 -- A test file and its runner define no function of external linkage twice.
-use Rattle.std.proofs.Common.{◌≡◌, ◌≢◌, ℕ, zero, suc, ◌+◌, ◌<◌, ◌≤◌, List, [], ◌∷◌, ◌++◌, length, Bool, true, false, Option, Some, None, refl, sym, ap, subst, ◌∙◌, arith}
+use Rattle.std.proofs.Common.{◌≡◌, ◌≢◌, ℕ, zero, suc, List, [], ◌∷◌, Bool, true, false, Some, refl, sym, ap, subst, ◌∙◌}
 use Rattle.std.specs.Prelude.{slice_get, bytes_eq, ◌&&◌, if◌then◌else◌, All}
 use Rattle.std.proofs.lemmas.Option.{none-some, same_Some}
 use Rattle.std.proofs.lemmas.Slice.Eq.{bytes_eq-Decides}
@@ -7,7 +7,7 @@ use Rattle.ct_core.specs.declared.units.CoreUnit.{CoreUnit}
 use Rattle.ct_core.specs.declared.units.CoreFunction.{CoreFunction}
 use Rattle.ct_meaning.specs.World.{is_external}
 use Rattle.ct_meaning.specs.Written.{defines}
-use Rattle.ct_meaning.specs.Runner.{empty_function, main_function, runner_unit}
+use Rattle.ct_meaning.specs.Runner.{runner_unit}
 use Rattle.ct_meaning.specs.Linked.{function_in, AreNamedApart, runner_of}
 use Rattle.ct_meaning.proofs.Positions.{all_at}
 use Rattle.ct_meaning.proofs.RunnerUnit.{main, set_up, tear_down, functions, OfRunner, IsSetUp, IsTearDown, IsMain, of_runner}

@@ -1,19 +1,19 @@
 -- What names mean in the units of a test project, with their runner and without it.
-use Rattle.std.proofs.Common.{◌≡◌, ◌≢◌, ◌⊎◌, inl, inr, ℕ, zero, suc, ◌+◌, ◌<◌, ◌≤◌, List, [], ◌∷◌, ◌++◌, length, map, Bool, true, false, Option, Some, None, refl, sym, ap, subst, ◌∙◌, arith, eqb-true, eq-eqb, lt-ltb}
-use Rattle.std.specs.Prelude.{slice_get, position, bytes_eq, codes, filter, ◌&&◌, ◌==◌, option_and_then, not}
+use Rattle.std.proofs.Common.{◌≡◌, ◌⊎◌, inl, inr, ℕ, ◌<◌, List, [], ◌∷◌, ◌++◌, length, map, Bool, true, Option, Some, None, refl, sym, ap, subst, ◌∙◌, arith, eqb-true}
+use Rattle.std.specs.Prelude.{slice_get, position, bytes_eq, filter, ◌&&◌, ◌==◌}
 use Rattle.std.proofs.lemmas.Option.{none-some, same_Some}
 use Rattle.std.proofs.lemmas.Slice.Eq.{bytes_eq-Decides}
 use Rattle.ct_core.specs.declared.units.CoreUnit.{CoreUnit}
 use Rattle.ct_core.specs.declared.units.CoreFunction.{CoreFunction}
 use Rattle.ct_core.specs.declared.units.Definition.{Definition}
-use Rattle.ct_meaning.specs.World.{World, is_external, is_common, common_number, own_number, or_else, number_of, function_at, Target, Defined, target_of, inner_target, defined_target}
+use Rattle.ct_meaning.specs.World.{World, is_external, is_common, common_number, own_number, or_else, number_of, Defined, target_of, inner_target, defined_target}
 use Rattle.ct_meaning.specs.Program.{plain_world}
 use Rattle.ct_meaning.specs.Written.{written_world, functions_of, is_test, defines}
-use Rattle.ct_meaning.specs.Linked.{IsLinked, IsTestProject, function_in, is_shared, definition_of, runner_of, is_ordinary}
+use Rattle.ct_meaning.specs.Linked.{IsLinked, function_in, definition_of, runner_of}
 use Rattle.ct_meaning.specs.Runner.{runner_unit}
 use Rattle.ct_meaning.proofs.Spends.{first_true, second_true}
 use Rattle.ct_meaning.proofs.Positions.{Placed, Found, Nowhere, placed}
-use Rattle.ct_meaning.proofs.RunnerUnit.{main, set_up, tear_down, functions, of_runner, all_external, side, function_before, function_last, function_past, function_not}
+use Rattle.ct_meaning.proofs.RunnerUnit.{set_up, tear_down, functions, of_runner, all_external, side, function_before, function_last, function_past, function_not}
 
 abbrev pub external_or : Option CoreFunction → Bool
 external_or o = elim o [ Some f ↦ is_external f.linkage | None ↦ true ]
@@ -83,9 +83,11 @@ module _ (units : List CoreUnit) (table : List Definition) (budget : ℕ) (path 
       same k x b is passes e =
           let here : x ≡ d = same_Some x d (sym is ∙ ap (λ (j : ℕ). slice_get table j) (same_Some k number e) ∙ at) in
           sym (ap (λ (y : Definition). y.name) here) ∙ (bytes_eq-Decides x.name name).0 (first_true _ _ passes)
+
       common : (o : Option ℕ) → Placed (λ (x : Definition). bytes_eq x.name name && is_common plain x) table o → o ≡ Some number → d.name ≡ name
       common _ (Found k x is passes) e = same k x _ is passes e
       common _ (Nowhere none) e = absurd (none-some number e)
+
       own : (o : Option ℕ) → Placed (λ (x : Definition). bytes_eq x.name name && (x.unit == unit)) table o → or_else o (common_number plain name) ≡ Some number → d.name ≡ name
       own _ (Found k x is passes) e = same k x _ is passes e
       own _ (Nowhere none) e = common (common_number plain name) (placed _ table) e
@@ -98,10 +100,13 @@ module _ (units : List CoreUnit) (table : List Definition) (budget : ℕ) (path 
       where
         number : ℕ
         number = (linked.listed unit place f e).0
+
         stands : slice_get table number ≡ Some (definition_of f unit place)
         stands = (linked.listed unit place f e).1
+
         shared : is_common plain (definition_of f unit place) ≡ true
         shared = ap external_or e ∙ external
+
         at : (o : Option ℕ) → Placed (λ (d : Definition). bytes_eq d.name name && is_common plain d) table o → common_number plain name ≡ o → Common plain table name f unit place
         at _ (Found k x is passes) found =
             let here : k ≡ number = linked.one k number x (definition_of f unit place) is stands ((bytes_eq-Decides x.name name).0 (first_true _ _ passes) ∙ sym same) (second_true _ _ passes) shared in
@@ -121,6 +126,7 @@ module _ (units : List CoreUnit) (table : List Definition) (budget : ℕ) (path 
         common k x is name_is shared _ (Nowhere none) =
             let passes : (bytes_eq x.name name && is_common plain x) ≡ true = both _ _ name_is shared in
             let fails = none k x is in cc
+
         own : (o : Option ℕ) → Placed (λ (d : Definition). bytes_eq d.name name && (d.unit == length units)) table o → or_else o (common_number plain name) ≡ common_number plain name
         own _ (Found k x is passes) =
             common k x is (first_true _ _ passes) (shared_last x (eqb-true x.unit (length units) (second_true _ _ passes))) (common_number plain name) (placed _ table)

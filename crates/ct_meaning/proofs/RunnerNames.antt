@@ -1,27 +1,22 @@
 -- What the names in a runner's `main` mean.
-use Rattle.std.proofs.Common.{◌≡◌, ◌≢◌, ◌⊎◌, inl, inr, ℕ, zero, suc, ◌+◌, ◌<◌, ◌≤◌, List, [], ◌∷◌, ◌++◌, length, map, Bool, true, false, cond, ℤ, pos, Option, Some, None, refl, sym, ap, subst, ◌∙◌, arith, le-leb}
-use Rattle.std.specs.Prelude.{slice_get, position, bytes_eq, codes, filter, unwrap_or, ◌&&◌, ◌||◌, ◌==◌, All, option_and_then, option_map, nat_eq, if◌then◌else◌}
+use Rattle.std.proofs.Common.{◌≡◌, ◌≢◌, ℕ, suc, List, [], ◌∷◌, length, Bool, true, false, cond, Option, Some, refl, sym, ap, subst, ◌∙◌}
+use Rattle.std.specs.Prelude.{slice_get, bytes_eq, codes, filter, unwrap_or, ◌&&◌, ◌||◌, ◌==◌, option_and_then, nat_eq}
 use Rattle.std.specs.List.{list_any, starts_with}
-use Rattle.std.proofs.lemmas.Option.{none-some, same_Some, slice_get_within}
+use Rattle.std.proofs.lemmas.Option.{same_Some, slice_get_within}
 use Rattle.std.proofs.lemmas.Slice.Eq.{bytes_eq-Decides}
-use Rattle.ct_ctype.specs.declared.kinds.IntKind.TheVariants.{UnsignedInt}
-use Rattle.ct_ctype.specs.Ranges.{is_in_range}
-use Rattle.ct_core.specs.declared.built_ins.BuiltIn.{BuiltIn}
-use Rattle.ct_core.specs.declared.built_ins.BuiltIn.TheVariants.{RunCall, RunEnd, RunPhase, RunTest}
 use Rattle.ct_core.specs.declared.units.CoreUnit.{CoreUnit}
 use Rattle.ct_core.specs.declared.units.CoreFunction.{CoreFunction}
 use Rattle.ct_core.specs.declared.units.Definition.{Definition}
-use Rattle.ct_core.specs.BuiltIns.{built_in_of}
-use Rattle.ct_meaning.specs.World.{World, is_external, is_common, common_number, number_of, Target, Defined, Given, target_of, inner_target, defined_target}
+use Rattle.ct_meaning.specs.World.{World, is_external, common_number}
 use Rattle.ct_meaning.specs.Written.{defines, functions_of, is_test, is_void, has_test_name}
-use Rattle.ct_meaning.specs.Runner.{empty_function, main_function}
-use Rattle.ct_meaning.specs.Linked.{IsLinked, IsTestProject, IsProjectUnit, IsProjectFunction, Shares, Says, function_in, definition_of, is_ordinary}
+use Rattle.ct_meaning.specs.Runner.{empty_function}
+use Rattle.ct_meaning.specs.Linked.{IsLinked, IsTestProject, IsProjectUnit, IsProjectFunction, function_in, definition_of}
 use Rattle.ct_meaning.proofs.Spends.{first_true, second_true}
-use Rattle.ct_meaning.proofs.Positions.{Placed, Found, Nowhere, placed, all_at}
-use Rattle.ct_meaning.proofs.RunnerUnit.{main, set_up, tear_down, functions, OfRunner, IsSetUp, IsTearDown, IsMain, of_runner, set_up_at, tear_down_at, side, function_before, function_last, function_past}
-use Rattle.ct_meaning.proofs.RunnerLink.{Common, tests_in, runner, all, plain, written, function_runner, common_same, common_of, runner_number, target_defined, external_or}
+use Rattle.ct_meaning.proofs.Positions.{all_at}
+use Rattle.ct_meaning.proofs.RunnerUnit.{main, set_up, tear_down, set_up_at, tear_down_at, function_before}
+use Rattle.ct_meaning.proofs.RunnerLink.{tests_in, runner, all, plain, written, function_runner, common_same, common_of, runner_number, target_defined}
 use Rattle.ct_meaning.proofs.RunnerTargets.{Reached}
-use Rattle.ct_meaning.proofs.RunnerSteps.{Offers, Means}
+use Rattle.ct_meaning.proofs.RunnerSteps.{Means}
 
 -- an element that passes a test
 pub any_at : {X : Type 0} (p : X → Bool) (xs : List X) → list_any p xs ≡ true → (k : ℕ) × (x : X) × (slice_get xs k ≡ Some x) × (p x ≡ true)
@@ -120,11 +115,13 @@ module _ (units : List CoreUnit) (table : List Definition) (budget : ℕ) (path 
     where
       by : (b : Bool) → is_test f ≡ b → AllTests (filter is_test fs) → AllTests (cond b (f ∷ filter is_test fs) (filter is_test fs))
       by true e rest =
-          let here = at 0 f refl in
-          (record {
-            own = all_at IsProjectFunction project.first.functions here.0 f (all_at IsProjectUnit units 0 project.first project.own project.is_first).functions here.1;
-            fixture = fixture_of f.name 0 here.0 f (first_function here.0 f here.1) (test_external f e) refl (test_name f e);
-          }, rest)
+          let here = at 0 f refl in (
+            record {
+              own = all_at IsProjectFunction project.first.functions here.0 f (all_at IsProjectUnit units 0 project.first project.own project.is_first).functions here.1;
+              fixture = fixture_of f.name 0 here.0 f (first_function here.0 f here.1) (test_external f e) refl (test_name f e);
+            },
+            rest,
+          )
       by false e rest = rest
 
   pub tests_all : AllTests (filter is_test (functions_of (slice_get units 0)))

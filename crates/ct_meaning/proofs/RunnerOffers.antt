@@ -1,6 +1,6 @@
 -- What the names of the built-in functions mean in a runner's `main`.
-use Rattle.std.proofs.Common.{◌≡◌, ◌≢◌, ◌⊎◌, inl, inr, ℕ, zero, suc, ◌+◌, ◌<◌, ◌≤◌, List, [], ◌∷◌, ◌++◌, length, Bool, true, false, ℤ, pos, Option, Some, None, refl, sym, ap, subst, ◌∙◌, arith, le-leb, leb}
-use Rattle.std.specs.Prelude.{slice_get, position, bytes_eq, codes, ◌&&◌, option_and_then, option_map, nat_eq}
+use Rattle.std.proofs.Common.{◌≡◌, ◌⊎◌, inl, inr, ℕ, ◌<◌, List, length, Bool, true, false, pos, Option, Some, None, refl, sym, ap, subst, ◌∙◌, arith, le-leb, leb}
+use Rattle.std.specs.Prelude.{slice_get, bytes_eq, codes, ◌&&◌, option_and_then, option_map, nat_eq}
 use Rattle.std.specs.List.{starts_with}
 use Rattle.std.proofs.lemmas.Option.{none-some}
 use Rattle.std.proofs.lemmas.Slice.Eq.{bytes_eq-Decides}
@@ -12,12 +12,12 @@ use Rattle.ct_core.specs.declared.units.CoreUnit.{CoreUnit}
 use Rattle.ct_core.specs.declared.units.CoreFunction.{CoreFunction}
 use Rattle.ct_core.specs.declared.units.Definition.{Definition}
 use Rattle.ct_core.specs.BuiltIns.{built_in_of}
-use Rattle.ct_meaning.specs.World.{World, is_common, common_number, number_of, Target, Given, target_of, inner_target, defined_target}
+use Rattle.ct_meaning.specs.World.{World, is_common, common_number, Given, target_of, inner_target, defined_target}
 use Rattle.ct_meaning.specs.Written.{defines}
 use Rattle.ct_meaning.specs.Linked.{IsLinked, IsTestProject, IsProjectUnit, IsProjectFunction, Shares, Says, function_in}
-use Rattle.ct_meaning.proofs.Spends.{first_true, second_true}
+use Rattle.ct_meaning.proofs.Spends.{first_true}
 use Rattle.ct_meaning.proofs.Positions.{Placed, Found, Nowhere, placed, all_at}
-use Rattle.ct_meaning.proofs.RunnerUnit.{set_up, tear_down, functions, OfRunner, IsSetUp, IsTearDown, IsMain, of_runner, side, function_before, function_past}
+use Rattle.ct_meaning.proofs.RunnerUnit.{set_up, tear_down, OfRunner, IsSetUp, IsTearDown, IsMain, of_runner, side, function_before, function_past}
 use Rattle.ct_meaning.proofs.RunnerLink.{tests_in, runner, all, plain, function_runner, runner_number, both}
 use Rattle.ct_meaning.proofs.RunnerSteps.{Offers}
 
@@ -43,6 +43,7 @@ module _ (units : List CoreUnit) (table : List Definition) (budget : ℕ) (path 
       in_unit : (o : Option CoreUnit) → slice_get units unit ≡ o → option_and_then (λ (u : CoreUnit). slice_get u.functions place) o ≡ Some f → is_reserved f.name ≡ false
       in_unit (Some u) here at = (all_at IsProjectFunction u.functions place f (all_at IsProjectUnit units unit u project.own here).functions at).unreserved
       in_unit None here at = absurd (none-some f at)
+
       by : (unit < length units) ⊎ ((unit ≡ length units) ⊎ (length units < unit)) → is_reserved f.name ≡ false
       by (inl within) = in_unit (slice_get units unit) refl (sym (function_before units (runner units table budget path) unit place within) ∙ is)
       by (inr (inl last)) =
@@ -68,6 +69,7 @@ module _ (units : List CoreUnit) (table : List Definition) (budget : ℕ) (path 
     where
       shares : Shares (all units table budget path) table name
       shares = linked.offered name b is
+
       by : (o : Option ℕ) → Placed (λ (d : Definition). bytes_eq d.name name && is_common P d) table o → common_number P name ≡ o → Offers P (length units) name b
       by _ (Found k x at passes) found = record {
         number = k;

@@ -1,20 +1,18 @@
 -- The runner's calls of a test are the two phases of the written meaning.
-use Rattle.std.proofs.Common.{◌≡◌, ℕ, zero, suc, ◌+◌, ◌<◌, ◌≤◌, List, [], ◌∷◌, Bool, true, false, Option, Some, None, refl, sym, ap, subst, ◌∙◌, arith, eq-eqb, lt-ltb}
-use Rattle.std.specs.Prelude.{if◌then◌else◌, is_some, is_none, ◌==◌, ◌&&◌, not, nat_lt}
+use Rattle.std.proofs.Common.{◌≡◌, ℕ, ◌<◌, ◌≤◌, List, [], ◌∷◌, Bool, true, false, Some, None, refl, sym, ap, subst, ◌∙◌, arith, eq-eqb}
+use Rattle.std.specs.Prelude.{if◌then◌else◌, ◌==◌, ◌&&◌}
 use Rattle.ct_core.specs.declared.values.Value.{Value}
-use Rattle.ct_core.specs.declared.values.Value.TheVariants.{Void, Function}
+use Rattle.ct_core.specs.declared.values.Value.TheVariants.{Void}
 use Rattle.ct_core.specs.declared.objects.Object.{Object as Stored}
-use Rattle.ct_core.specs.declared.testing.TestState.{TestState}
-use Rattle.ct_core.specs.Testing.{begun_test}
 use Rattle.ct_meaning.specs.declared.state.State.{State}
 use Rattle.ct_meaning.specs.Doing.{Outcome, Does, onwards, pure}
 use Rattle.ct_meaning.specs.World.{World, Where}
-use Rattle.ct_meaning.specs.Rules.{test_file, with_test, can_begin, in_test, without_test, caught, run_call}
+use Rattle.ct_meaning.specs.Rules.{in_test, without_test, caught, run_call}
 use Rattle.ct_meaning.specs.Meaning.{enter, calls}
 use Rattle.ct_meaning.specs.Program.{outermost, left_in}
-use Rattle.ct_meaning.specs.Written.{Test, phase, test_state}
+use Rattle.ct_meaning.specs.Written.{phase}
 use Rattle.ct_meaning.proofs.Related.{Agree, SameCall}
-use Rattle.ct_meaning.proofs.Spends.{began, end_at}
+use Rattle.ct_meaning.proofs.Spends.{end_at}
 use Rattle.ct_meaning.proofs.RunnerValues.{SameValue}
 use Rattle.ct_meaning.proofs.RunnerRules.{Twins, Going, with_tool, SameRun}
 use Rattle.ct_meaning.proofs.RunnerRun.{enters}

@@ -1,5 +1,5 @@
 -- Two runs of the same Project code stay related, whatever functions they call.
-use Rattle.std.proofs.Common.{◌≡◌, ℕ, zero, suc, ◌+◌, ◌<◌, ◌≤◌, List, [], ◌∷◌, Option, Some, None, refl, sym, ap, subst, ◌∙◌, arith}
+use Rattle.std.proofs.Common.{◌≡◌, ℕ, ◌≤◌, List, [], ◌∷◌, Option, Some, None, refl, sym, subst, arith}
 use Rattle.ct_base.specs.declared.faults.FaultKind.TheVariants.{BadCall}
 use Rattle.ct_core.specs.declared.values.Value.{Value}
 use Rattle.ct_core.specs.declared.values.Value.TheVariants.{Function}
@@ -7,10 +7,10 @@ use Rattle.ct_core.specs.declared.objects.Object.{Object as Stored}
 use Rattle.ct_meaning.specs.declared.state.State.{State}
 use Rattle.ct_meaning.specs.declared.state.Ending.{Ending}
 use Rattle.ct_meaning.specs.declared.state.Ending.TheVariants.{Onward}
-use Rattle.ct_meaning.specs.Doing.{Outcome, Does}
+use Rattle.ct_meaning.specs.Doing.{Outcome}
 use Rattle.ct_meaning.specs.World.{World, Where, Target, Empty, Defined, target_of, function_at}
-use Rattle.ct_meaning.specs.Rules.{stop, failed}
-use Rattle.ct_meaning.specs.Meaning.{Calls, defined_body, row_body, body_of, calls, enter}
+use Rattle.ct_meaning.specs.Rules.{failed}
+use Rattle.ct_meaning.specs.Meaning.{Calls, defined_body, row_body, body_of, calls}
 use Rattle.ct_meaning.specs.Runner.{empty_function}
 use Rattle.ct_meaning.specs.Linked.{is_ordinary}
 use Rattle.ct_meaning.proofs.Related.{Agree, Keeps, Each, Endings, SameCall, Alike, Shared, Other, EnterKeeps, done, calls_keep, entered_at}

@@ -1,11 +1,10 @@
 -- What each statement of a runner's `main` does.
-use Rattle.std.proofs.Common.{◌≡◌, ℕ, zero, suc, ◌+◌, ◌<◌, ◌≤◌, List, [], ◌∷◌, ◌++◌, map, Bool, true, false, ℤ, pos, Option, Some, None, Result, Ok, Err, refl, sym, ap, subst, ◌∙◌, arith}
-use Rattle.std.specs.Prelude.{slice_get, codes, if◌then◌else◌, unsigned_abs, is_some, ◌==◌, ◌&&◌, not}
+use Rattle.std.proofs.Common.{◌≡◌, ℕ, List, [], ◌∷◌, map, Bool, true, false, ℤ, pos, Option, Some, None, Result, Ok, Err, refl, ap, ◌∙◌}
+use Rattle.std.specs.Prelude.{codes, if◌then◌else◌, ◌&&◌, not}
 use Rattle.ct_base.specs.declared.faults.FaultKind.{FaultKind}
 use Rattle.ct_ctype.specs.declared.kinds.IntKind.TheVariants.{UnsignedInt, Int as int}
 use Rattle.ct_ctype.specs.declared.types.FunctionType.{FunctionType}
 use Rattle.ct_ctype.specs.Ranges.{is_in_range}
-use Rattle.ct_core.specs.declared.values.Pointer.{Pointer}
 use Rattle.ct_core.specs.declared.values.Value.{Value}
 use Rattle.ct_core.specs.declared.values.Value.TheVariants.{Void, Int, Object, Function as Designated}
 use Rattle.ct_core.specs.declared.built_ins.BuiltIn.{BuiltIn}
@@ -13,7 +12,7 @@ use Rattle.ct_core.specs.declared.built_ins.BuiltIn.TheVariants.{RunCall, RunEnd
 use Rattle.ct_core.specs.declared.trees.CoreExpression.{CoreExpression}
 use Rattle.ct_core.specs.declared.trees.CoreExpression.TheVariants.{Constant, Text, Function, Call}
 use Rattle.ct_core.specs.declared.trees.CoreStatement.{CoreStatement}
-use Rattle.ct_core.specs.declared.trees.CoreStatement.TheVariants.{Run, Return}
+use Rattle.ct_core.specs.declared.trees.CoreStatement.TheVariants.{Return}
 use Rattle.ct_core.specs.declared.units.CoreFunction.{CoreFunction}
 use Rattle.ct_core.specs.Access.{and_then, string_at}
 use Rattle.ct_meaning.specs.declared.state.State.{State}
@@ -21,8 +20,8 @@ use Rattle.ct_meaning.specs.declared.state.Ending.{Ending}
 use Rattle.ct_meaning.specs.declared.state.Ending.TheVariants.{Onward, Returned}
 use Rattle.ct_meaning.specs.Doing.{Outcome, Does, onwards, pure, each}
 use Rattle.ct_meaning.specs.World.{World, Where, number_of, text_pointer, Target, Defined, Given, target_of}
-use Rattle.ct_meaning.specs.Rules.{given, used, literal, designator, function_value, begun, number_in, number_argument, test_check, with_test, begun_test_by, can_begin, run_test, in_test, without_test, run_end, run_phase, caught, run_call}
-use Rattle.ct_meaning.specs.Meaning.{Calls, Evaluates, enter, call_target, procedure, handed_call, built_in, apply_call, used_value, expression, statement, in_turn, then_go}
+use Rattle.ct_meaning.specs.Rules.{given, used, literal, designator, function_value, begun, number_argument, test_check, with_test, begun_test_by, can_begin, run_test, in_test, without_test, run_end, run_phase, caught, run_call}
+use Rattle.ct_meaning.specs.Meaning.{Calls, enter, call_target, procedure, handed_call, built_in, apply_call, used_value, expression, statement, in_turn, then_go}
 use Rattle.ct_meaning.specs.Runner.{unmarked, call_statement, run_test_type, run_call_type}
 use Rattle.ct_meaning.specs.Runner as runner
 use Rattle.ct_meaning.proofs.RunnerTrees.{call_means, function_means, text_means, constant_means, run_means, return_means}

@@ -1,27 +1,25 @@
 -- What the numbers of functions mean in the units of a test project, with their runner and without it.
-use Rattle.std.proofs.Common.{◌≡◌, ◌≢◌, ◌⊎◌, inl, inr, ℕ, zero, suc, ◌+◌, ◌<◌, ◌≤◌, List, [], ◌∷◌, ◌++◌, length, map, take, Bool, true, false, cond, Option, Some, None, refl, sym, ap, subst, ◌∙◌, arith, eqb, eqb-true, eq-eqb}
-use Rattle.std.specs.Prelude.{slice_get, codes, find, ◌==◌, option_map, option_and_then, if◌then◌else◌}
+use Rattle.std.proofs.Common.{◌≡◌, ◌≢◌, ◌⊎◌, inl, inr, ℕ, zero, suc, ◌+◌, ◌<◌, List, [], ◌∷◌, length, take, Bool, true, false, cond, Option, Some, None, refl, sym, ap, subst, ◌∙◌, arith, eqb, eqb-true, eq-eqb}
+use Rattle.std.specs.Prelude.{slice_get, find, ◌==◌, option_map, option_and_then, if◌then◌else◌}
 use Rattle.std.specs.Option.{option_or}
-use Rattle.std.proofs.lemmas.Option.{none-some, same_Some, slice_get-get_or}
+use Rattle.std.proofs.lemmas.Option.{none-some, same_Some}
 use Rattle.std.proofs.lemmas.List.{take-append-le}
 use Rattle.std.proofs.lemmas.List.Folds.{find-append}
-use Rattle.ct_core.specs.declared.values.Space.{Space}
-use Rattle.ct_core.specs.declared.values.Space.TheVariants.{Project, Tool}
-use Rattle.ct_core.specs.declared.values.Pointer.{Pointer}
+use Rattle.ct_core.specs.declared.values.Space.TheVariants.{Project}
 use Rattle.ct_core.specs.declared.built_ins.BuiltIn.{BuiltIn}
 use Rattle.ct_core.specs.declared.units.CoreUnit.{CoreUnit}
 use Rattle.ct_core.specs.declared.units.CoreFunction.{CoreFunction}
 use Rattle.ct_core.specs.declared.units.Definition.{Definition}
 use Rattle.ct_core.specs.BuiltIns.{built_in_of}
-use Rattle.ct_meaning.specs.World.{World, Row, Empty, is_common, common_number, number_of, function_at, unit_space, space_of, text_pointer, text_count, Target, Outside, Defined, Given, target_of, inner_target, defined_target, outer_target}
+use Rattle.ct_meaning.specs.World.{World, Row, Empty, common_number, number_of, unit_space, space_of, text_pointer, text_count, Target, Outside, Given, target_of, inner_target, defined_target, outer_target}
 use Rattle.ct_meaning.specs.Names.{statement_names}
-use Rattle.ct_meaning.specs.Written.{defines, empty_row}
+use Rattle.ct_meaning.specs.Written.{defines}
 use Rattle.ct_meaning.specs.Runner.{empty_function, main_function}
 use Rattle.ct_meaning.specs.Linked.{IsLinked, IsTestProject, IsProjectUnit, IsProjectFunction, Says, function_in, definition_of, is_ordinary}
 use Rattle.ct_meaning.proofs.Positions.{get_left, all_at}
 use Rattle.ct_meaning.proofs.RunnerRules.{Targets, Functions, Empties, BuiltIns, Nothings, Twins}
-use Rattle.ct_meaning.proofs.RunnerUnit.{main, set_up, tear_down, functions, OfRunner, IsSetUp, IsTearDown, IsMain, of_runner, set_up_at, tear_down_at, side, function_before, function_last, function_past, function_not}
-use Rattle.ct_meaning.proofs.RunnerLink.{Common, tests_in, runner, all, plain, written, function_runner, common_same, numbers_same, named, common_of, target_defined, shared_last, external_or}
+use Rattle.ct_meaning.proofs.RunnerUnit.{main, set_up, tear_down, functions, OfRunner, IsSetUp, IsTearDown, IsMain, of_runner, set_up_at, tear_down_at, side, function_before, function_past, function_not}
+use Rattle.ct_meaning.proofs.RunnerLink.{tests_in, runner, all, plain, written, function_runner, common_same, numbers_same, named, common_of, target_defined, shared_last, external_or}
 
 -- ---- the rows of the written meaning
 

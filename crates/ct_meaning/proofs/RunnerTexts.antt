@@ -1,13 +1,12 @@
 -- The string literals of a runner: they are the objects of the Tool space.
-use Rattle.std.proofs.Common.{◌≡◌, ◌≢◌, ℕ, zero, suc, ◌+◌, ◌<◌, ◌≤◌, List, [], ◌∷◌, ◌++◌, length, map, take, drop, Bool, true, false, Option, Some, None, Result, Ok, Err, refl, sym, ap, subst, ◌∙◌, arith, append_assoc, append-nil, add-one}
-use Rattle.std.specs.Prelude.{slice_get, All, sum_by, if◌then◌else◌}
+use Rattle.std.proofs.Common.{◌≡◌, ◌≢◌, ℕ, zero, suc, ◌+◌, List, [], ◌∷◌, ◌++◌, length, map, drop, Option, Some, Result, Ok, refl, sym, ap, subst, ◌∙◌, append_assoc, append-nil, add-one}
+use Rattle.std.specs.Prelude.{slice_get, All, if◌then◌else◌}
 use Rattle.std.proofs.lemmas.List.{length-append}
 use Rattle.std.proofs.lemmas.List.Elements.{All-head, All-tail}
 use Rattle.std.proofs.lemmas.List.Sums.{sum_by-cons}
 use Rattle.ct_base.specs.declared.faults.FaultKind.{FaultKind}
 use Rattle.ct_core.specs.declared.values.Space.{Space}
 use Rattle.ct_core.specs.declared.values.Space.TheVariants.{Project, Tool}
-use Rattle.ct_core.specs.declared.values.Pointer.{Pointer}
 use Rattle.ct_core.specs.declared.values.Cell.TheVariants.{Byte}
 use Rattle.ct_core.specs.declared.objects.Object.{Object as Stored}
 use Rattle.ct_core.specs.declared.units.CoreUnit.{CoreUnit}

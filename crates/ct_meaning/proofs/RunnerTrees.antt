@@ -1,15 +1,11 @@
 -- What the few forms of the runner's trees do.
-use Rattle.std.proofs.Common.{◌≡◌, ℕ, zero, suc, ◌+◌, List, [], ◌∷◌, ◌++◌, map, take, Option, Some, None, ℤ, pos, refl, sym, ap, subst, ◌∙◌}
-use Rattle.std.specs.Prelude.{slice_get, option_and_then, option_map}
+use Rattle.std.proofs.Common.{◌≡◌, ℕ, List, [], ◌∷◌, map, Option, Some, None, ℤ, refl, ap, ◌∙◌}
 use Rattle.ct_base.specs.declared.faults.FaultKind.TheVariants.{BadCall}
 use Rattle.ct_ctype.specs.declared.kinds.IntKind.{IntKind}
-use Rattle.ct_ctype.specs.declared.kinds.IntKind.TheVariants.{Int as int}
 use Rattle.ct_ctype.specs.declared.types.FunctionType.{FunctionType}
-use Rattle.ct_core.specs.declared.values.Space.{Space}
-use Rattle.ct_core.specs.declared.values.Space.TheVariants.{Project, Tool}
 use Rattle.ct_core.specs.declared.values.Pointer.{Pointer}
 use Rattle.ct_core.specs.declared.values.Value.{Value}
-use Rattle.ct_core.specs.declared.values.Value.TheVariants.{Void, Int, Object, Function as Designated}
+use Rattle.ct_core.specs.declared.values.Value.TheVariants.{Int}
 use Rattle.ct_core.specs.declared.trees.Mark.{Mark}
 use Rattle.ct_core.specs.declared.trees.CoreExpression as expressions
 use Rattle.ct_core.specs.declared.trees.CoreStatement as statements
@@ -24,10 +20,10 @@ use Rattle.ct_core.specs.declared.units.Variable.{Variable}
 use Rattle.ct_meaning.specs.declared.state.State.{State}
 use Rattle.ct_meaning.specs.declared.state.Ending.{Ending}
 use Rattle.ct_meaning.specs.declared.state.Ending.TheVariants.{Onward, Returned}
-use Rattle.ct_meaning.specs.Doing.{Outcome, Does, onwards, ◌>>=◌, ◌>>◌, pure, each}
-use Rattle.ct_meaning.specs.World.{World, Where, unit_space, function_at, variable_at, variable_of, number_of, text_pointer}
-use Rattle.ct_meaning.specs.Rules.{stop, failed, given, used, literal, designator, function_value, begun, begun_in, begin_objects, end_objects}
-use Rattle.ct_meaning.specs.Meaning.{Calls, Evaluates, Executes, apply_call, used_value, expression_step, expression, statement_step, statement, in_turn, then_go, within, places_from, scalar_of_variable, initialise_parameter, initialise_parameters, defined_body}
+use Rattle.ct_meaning.specs.Doing.{Does, ◌>>=◌, ◌>>◌, pure, each}
+use Rattle.ct_meaning.specs.World.{World, Where, function_at, variable_at, variable_of}
+use Rattle.ct_meaning.specs.Rules.{failed, literal, designator, begun, begin_objects, end_objects}
+use Rattle.ct_meaning.specs.Meaning.{Calls, Evaluates, Executes, apply_call, used_value, expression_step, expression, statement_step, statement, in_turn, within, scalar_of_variable, initialise_parameter, initialise_parameters, defined_body}
 use Rattle.ct_meaning.specs.Runner.{unmarked, empty_function}
 
 module _ (w : World) (call : Calls) where

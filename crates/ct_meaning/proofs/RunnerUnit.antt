@@ -1,15 +1,12 @@
 -- The runner's functions, and the units with the runner behind them.
-use Rattle.std.proofs.Common.{◌≡◌, ◌⊎◌, ℕ, zero, suc, ◌+◌, ◌<◌, ◌≤◌, List, [], ◌∷◌, ◌++◌, length, map, take, Bool, true, false, Option, Some, None, refl, sym, ap, subst, ◌∙◌, arith}
-use Rattle.std.specs.Prelude.{slice_get, option_and_then, codes, if◌then◌else◌}
-use Rattle.std.proofs.lemmas.Option.{none-some, same_Some, slice_get_past, slice_get_within}
-use Rattle.ct_core.specs.declared.values.Space.{Space}
-use Rattle.ct_core.specs.declared.values.Space.TheVariants.{Project, Tool}
+use Rattle.std.proofs.Common.{◌≡◌, ◌⊎◌, ℕ, zero, suc, ◌<◌, ◌≤◌, List, [], ◌∷◌, ◌++◌, length, Bool, true, false, Option, Some, None, refl, ap, subst, arith}
+use Rattle.std.specs.Prelude.{slice_get, option_and_then, codes}
+use Rattle.std.proofs.lemmas.Option.{none-some, same_Some, slice_get_past}
 use Rattle.ct_core.specs.declared.units.CoreUnit.{CoreUnit}
 use Rattle.ct_core.specs.declared.units.CoreFunction.{CoreFunction}
-use Rattle.ct_core.specs.declared.units.Definition.{Definition}
 use Rattle.ct_meaning.specs.World.{is_external}
-use Rattle.ct_meaning.specs.Runner.{empty_function, main_function, missing, runner_unit}
-use Rattle.ct_meaning.specs.Linked.{function_in, is_shared}
+use Rattle.ct_meaning.specs.Runner.{empty_function, main_function, missing}
+use Rattle.ct_meaning.specs.Linked.{function_in}
 use Rattle.ct_meaning.proofs.Positions.{get_left, get_end, get_past}
 
 abbrev pub set_up : List ℕ

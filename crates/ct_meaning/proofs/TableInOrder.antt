@@ -1,10 +1,9 @@
 -- The table that lists the functions of units in order, and then what is built in, links the units.
-use Rattle.std.proofs.Common.{◌≡◌, ◌≢◌, ◌⊎◌, inl, inr, ℕ, zero, suc, ◌+◌, ◌<◌, ◌≤◌, List, [], ◌∷◌, ◌++◌, length, map, Bool, true, false, cond, Option, Some, None, refl, sym, ap, subst, ◌∙◌, arith}
-use Rattle.std.specs.Prelude.{slice_get, bytes_eq, filter, find, not, ◌&&◌, ◌||◌, All, option_map, option_and_then}
+use Rattle.std.proofs.Common.{◌≡◌, ℕ, zero, suc, ◌+◌, List, [], ◌∷◌, ◌++◌, length, Bool, true, false, cond, Option, Some, None, refl, sym, ap, subst, ◌∙◌, arith}
+use Rattle.std.specs.Prelude.{slice_get, bytes_eq, filter, find, not, ◌&&◌, ◌||◌, option_map, option_and_then}
 use Rattle.std.specs.List.{list_any}
 use Rattle.std.proofs.lemmas.Option.{none-some, same_Some, slice_get_within, slice_get-map, slice_get_past}
 use Rattle.std.proofs.lemmas.Slice.Eq.{bytes_eq-Decides}
-use Rattle.std.proofs.lemmas.List.Elements.{filter_passes}
 use Rattle.ct_core.specs.declared.built_ins.BuiltIn.{BuiltIn}
 use Rattle.ct_core.specs.declared.units.CoreUnit.{CoreUnit}
 use Rattle.ct_core.specs.declared.units.CoreFunction.{CoreFunction}
@@ -14,7 +13,7 @@ use Rattle.ct_core.specs.BuiltIns.{Row as BuiltInRow}
 use Rattle.ct_meaning.specs.World.{is_external}
 use Rattle.ct_meaning.specs.Linked.{function_in, is_shared, definition_of, Shares, Says, IsLinked, definitions_from, unit_definitions, is_defined, built_in_definitions, table_in_order, AreNamedApart}
 use Rattle.ct_meaning.proofs.Spends.{first_true, second_true}
-use Rattle.ct_meaning.proofs.Positions.{get_left, all_at}
+use Rattle.ct_meaning.proofs.Positions.{get_left}
 use Rattle.ct_meaning.proofs.RunnerLink.{both, external_or}
 use Rattle.ct_meaning.proofs.RunnerNames.{any_at}
 
@@ -105,7 +104,10 @@ of_units start (u ∷ units) number d e = by (of_both (definitions_from start 0 
         let n : start ≡ start + 0 = omega arith in
         let k : 0 + number ≡ number = omega arith in
         record {
-          unit = 0; place = number; function = own.function; stands = own.stands;
+          unit = 0;
+          place = number;
+          function = own.function;
+          stands = own.stands;
           is = own.is ∙ ap (λ (p : ℕ). definition_of own.function start p) k ∙ ap (λ (p : ℕ). definition_of own.function p number) n;
           counted = sym k;
         }
@@ -115,7 +117,10 @@ of_units start (u ∷ units) number d e = by (of_both (definitions_from start 0 
         let many = length_definitions start 0 u.functions in
         let counted = rest.counted in
         record {
-          unit = suc rest.unit; place = rest.place; function = rest.function; stands = rest.stands;
+          unit = suc rest.unit;
+          place = rest.place;
+          function = rest.function;
+          stands = rest.stands;
           is = rest.is ∙ ap (λ (p : ℕ). definition_of rest.function p rest.place) n;
           counted = omega arith;
         }
@@ -164,6 +169,7 @@ filtered_apart q (row ∷ rows) e = by (q row) (filtered_apart q rows (second_tr
   where
     none : list_any (λ (other : BuiltInRow). bytes_eq other.0 row.0) rows ≡ false
     none = not_true _ (first_true (not (list_any (λ (other : BuiltInRow). bytes_eq other.0 row.0) rows)) (names_apart rows) e)
+
     by : (b : Bool) → names_apart (filter q rows) ≡ true → names_apart (cond b (row ∷ filter q rows) (filter q rows)) ≡ true
     by false rest = rest
     by true rest = both _ _ (ap not (filtered_any (λ (other : BuiltInRow). bytes_eq other.0 row.0) q rows none)) rest
@@ -260,9 +266,11 @@ module _ (units : List CoreUnit) (apart : AreNamedApart units) where
   listed : (unit place : ℕ) (f : CoreFunction) → function_in units unit place ≡ Some f → (number : ℕ) × (slice_get (table_in_order units) number ≡ Some (definition_of f unit place))
   listed unit place f e =
       let there = unit_at 0 units unit place f e in
-      let n : 0 + unit ≡ unit = omega arith in
-      (before units unit + place, get_left own (built_in_definitions units) (before units unit + place) (slice_get_within own (before units unit + place) _ there)
-      ∙ there ∙ ap (λ (u : ℕ). Some (definition_of f u place)) n)
+      let n : 0 + unit ≡ unit = omega arith in (
+        before units unit + place,
+        get_left own (built_in_definitions units) (before units unit + place) (slice_get_within own (before units unit + place) _ there)
+            ∙ there ∙ ap (λ (u : ℕ). Some (definition_of f u place)) n,
+      )
 
   -- a function of external linkage with this name
   record External (name : List ℕ) : Type 0 where
@@ -282,7 +290,9 @@ module _ (units : List CoreUnit) (apart : AreNamedApart units) where
       let unit = any_at (λ (u : CoreUnit). list_any (has_name name) u.functions) units e in
       let f = any_at (has_name name) unit.1.functions unit.3 in
       record {
-        unit = unit.0; place = f.0; function = f.1;
+        unit = unit.0;
+        place = f.0;
+        function = f.1;
         stands = ap (λ (o : Option CoreUnit). option_and_then (λ (u : CoreUnit). slice_get u.functions f.0) o) unit.2 ∙ f.2;
         named = (bytes_eq-Decides f.1.name name).0 (first_true _ (is_external f.1.linkage) f.3);
         external = second_true (bytes_eq f.1.name name) _ f.3;

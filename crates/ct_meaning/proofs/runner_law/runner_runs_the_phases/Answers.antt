@@ -1,4 +1,3 @@
-use Rattle.ct_meaning.proofs.NameLaws as name_laws
 use Rattle.ct_meaning.proofs.Runner.{log_same}
 use Rattle.ct_meaning.proofs.runner_law.runner_runs_the_phases.Goals as goal
 
