@@ -2,9 +2,9 @@
 use Rattle.std.proofs.Common.{◌≡◌, ℕ, List, [], ◌∷◌, map, Bool, true, Option, Some, None, refl, sym, subst, ◌∙◌}
 use Rattle.std.specs.Prelude.{option_map, ◌&&◌}
 use Rattle.std.specs.List.{list_all}
-use Rattle.ct_core.specs.declared.trees.CoreExpression.{CoreExpression, roll-CoreExpression, map-CoreExpression, fold-roll-CoreExpression, ind-CoreExpression}
+use Rattle.ct_core.specs.declared.trees.CoreExpression.{CoreExpression, map-CoreExpression, fold-roll-CoreExpression, ind-CoreExpression}
 use Rattle.ct_core.specs.declared.trees.CoreExpression.TheOpen.{CoreExpression-F}
-use Rattle.ct_core.specs.declared.trees.CoreStatement.{CoreStatement, roll-CoreStatement, map-CoreStatement, fold-roll-CoreStatement, ind-CoreStatement}
+use Rattle.ct_core.specs.declared.trees.CoreStatement.{CoreStatement, map-CoreStatement, fold-roll-CoreStatement, ind-CoreStatement}
 use Rattle.ct_core.specs.declared.trees.CoreStatement.TheOpen.{CoreStatement-F}
 use Rattle.ct_meaning.specs.Names.{expression_names_step, expression_names, all_of, statement_names_step, statement_names}
 

@@ -1,8 +1,8 @@
 -- Where an element stands in a list.
-use Rattle.std.proofs.Common.{◌≡◌, ℕ, zero, suc, ◌+◌, ◌<◌, ◌≤◌, List, [], ◌∷◌, ◌++◌, Bool, true, false, cond, Option, Some, None, refl, sym, ap, subst, ◌∙◌, arith, length, nat_lt, lt-ltb, le-ltb}
-use Rattle.std.specs.Prelude.{slice_get, position, find, filter, All}
+use Rattle.std.proofs.Common.{◌≡◌, ℕ, zero, suc, ◌<◌, ◌≤◌, List, [], ◌∷◌, ◌++◌, Bool, true, false, cond, Option, Some, None, refl, sym, subst, ◌∙◌, arith, length, lt-ltb, le-ltb}
+use Rattle.std.specs.Prelude.{slice_get, position, find, All}
 use Rattle.std.specs.List.{position_or_len}
-use Rattle.std.proofs.lemmas.Option.{none-some, same_Some, slice_get_within, slice_get-get_or, slice_get_past}
+use Rattle.std.proofs.lemmas.Option.{none-some, same_Some, slice_get_within, slice_get-get_or}
 use Rattle.std.proofs.lemmas.List.Folds.{find_at}
 
 -- the first element that passes stands at the position, or none passes

@@ -2,7 +2,7 @@
 -- induction over trees, and over the numbers of nested calls and turns. R m says that two states are related, and that fewer
 -- than m calls and turns are left.
 use Rattle.std.proofs.Common.{◌≡◌, ℕ, zero, suc, ◌+◌, ◌<◌, ◌≤◌, List, [], ◌∷◌, ◌++◌, map, Bool, true, false, Option, Some, None, refl, sym, ap, subst, ◌∙◌, arith, length}
-use Rattle.std.specs.Prelude.{if◌then◌else◌, option_map, ◌&&◌}
+use Rattle.std.specs.Prelude.{if◌then◌else◌, option_map}
 use Rattle.std.specs.List.{list_all}
 use Rattle.ct_base.specs.declared.faults.FaultKind.{FaultKind}
 use Rattle.ct_base.specs.declared.operators.BinaryOp.{BinaryOp}

@@ -1,27 +1,22 @@
 -- Calls of two runs: what is built in does the same in both inside a call, and all rules keep the two runs related.
-use Rattle.std.proofs.Common.{◌≡◌, ℕ, zero, suc, ◌+◌, ◌<◌, ◌≤◌, List, [], ◌∷◌, Bool, true, false, ℤ, Option, Some, None, Result, Ok, Err, refl, sym, ap, subst, ◌∙◌, arith}
-use Rattle.std.specs.Prelude.{if◌then◌else◌, option_map, is_some, is_none, slice_get, unsigned_abs, ◌==◌, ◌&&◌, not, nat_lt}
-use Rattle.ct_base.specs.declared.faults.FaultKind.{FaultKind}
+use Rattle.std.proofs.Common.{◌≡◌, ℕ, List, Bool, true, false, ℤ, Option, Some, None, refl, sym, ap, subst, ◌∙◌, arith}
+use Rattle.std.specs.Prelude.{if◌then◌else◌, unsigned_abs, ◌&&◌, not}
 use Rattle.ct_base.specs.declared.faults.FaultKind.TheVariants.{BadCall, NullPointer, MissingReturn}
 use Rattle.ct_report.specs.declared.logs.Verdict.TheVariants.{Fail}
-use Rattle.ct_core.specs.declared.values.Space.TheVariants.{Project}
 use Rattle.ct_core.specs.declared.values.Pointer.{Pointer}
 use Rattle.ct_core.specs.declared.values.Value.{Value}
 use Rattle.ct_core.specs.declared.values.Value.TheVariants.{Void, Int, Null, Object, Function, Struct}
 use Rattle.ct_core.specs.declared.objects.Object.{Object as Stored}
-use Rattle.ct_core.specs.declared.testing.TestState.{TestState}
-use Rattle.ct_core.specs.declared.units.CoreUnit.{CoreUnit}
 use Rattle.ct_core.specs.declared.built_ins.BuiltIn.{BuiltIn}
 use Rattle.ct_core.specs.declared.built_ins.BuiltIn.TheVariants.{AssertEqualInt, RunCall, RunEnd, RunPhase, RunTest}
 use Rattle.ct_core.specs.declared.units.Variable.{Variable}
 use Rattle.ct_core.specs.Memory.{no_objects}
 use Rattle.ct_core.specs.Testing.{judged}
 use Rattle.ct_meaning.specs.declared.state.State.{State}
-use Rattle.ct_meaning.specs.Doing.{Outcome, Does, pure}
-use Rattle.ct_meaning.specs.World.{World, Where, Target, Outside, Defined, Given, target_of, unit_space, space_of, number_of, text_pointer, variable_at}
-use Rattle.ct_meaning.specs.Rules.{given, used, truth_in, apply_binary, apply_conversion, binary_value, converted_value, variable, address_in, literal, designator, function_value, load, store, initialise, equal_check, failed_at, assert_equal_int, begun_test_by, test_check, can_begin, run_test, in_test, without_test, run_end, run_phase, caught, run_call, stop}
+use Rattle.ct_meaning.specs.Doing.{Outcome, Does}
+use Rattle.ct_meaning.specs.World.{World, Where, Target, space_of, number_of, text_pointer, variable_at}
+use Rattle.ct_meaning.specs.Rules.{given, used, truth_in, apply_binary, apply_conversion, binary_value, converted_value, variable, address_in, literal, designator, function_value, load, store, initialise, equal_check, failed_at, assert_equal_int, begun_test_by, test_check, can_begin, run_test, in_test, without_test, run_end, run_phase, caught, run_call}
 use Rattle.ct_meaning.specs.Meaning.{Calls, enter, call_target, call_value, handed_call, built_in, apply_call, scalar_of_variable, initialise_parameter}
-use Rattle.ct_meaning.specs.Program.{left_in}
 use Rattle.ct_meaning.specs.Linked.{is_ordinary}
 use Rattle.ct_meaning.proofs.Related.{Agree, Keeps, Always, Equal, Each, SameCall, SameWhere, Kin, done, bind, weaker}
 use Rattle.ct_meaning.proofs.Numbers.{same_values}
@@ -66,15 +61,19 @@ module _ (plain written : World) (U N : ℕ → Type 0) (T : List Stored) (count
     idle_end : Keeps R V n (run_end h) (run_end k)
     unfolding run_end
     idle_end = record {
-      at = λ m le s t r. (record { same = refl; safe = tt },
-          idle_state (in_test h s) (in_test k t) (never h deep _) (never k deep' _) m s t (without_test s) (without_test t) r);
+      at = λ m le s t r. (
+        record { same = refl; safe = tt },
+        idle_state (in_test h s) (in_test k t) (never h deep _) (never k deep' _) m s t (without_test s) (without_test t) r,
+      );
     }
 
     idle_phase : Keeps R V n (run_phase h) (run_phase k)
     unfolding run_phase
     idle_phase = record {
-      at = λ m le s t r. (record { same = refl; safe = tt },
-          idle_state (in_test h s) (in_test k t) (never h deep _) (never k deep' _) m s t (record s { aborted = false }) (record t { aborted = false }) r);
+      at = λ m le s t r. (
+        record { same = refl; safe = tt },
+        idle_state (in_test h s) (in_test k t) (never h deep _) (never k deep' _) m s t (record s { aborted = false }) (record t { aborted = false }) r,
+      );
     }
 
     idle_call : (p q : Does Value) → Keeps R V n (run_call h p) (run_call k q)
@@ -121,7 +120,7 @@ module _ (plain written : World) (U N : ℕ → Type 0) (T : List Stored) (count
     target_keeps : (number : ℕ) → N number → (a b : Option Target) → Targets plain U a b
         → Keeps R V n (call_target plain h f (built_in plain h f) number xs a) (call_target written k g (built_in written k g) number ys b)
     target_keeps number reached _ _ (Functions unit place function u names) = keep number xs ys (record { same = refl; safe = reached }) e
-    target_keeps number reached _ _ (Empties unit place name is tool) = keep number xs ys (record { same = refl; safe = reached }) e
+    target_keeps number reached _ _ (Empties unit place name is) = keep number xs ys (record { same = refl; safe = reached }) e
     target_keeps number reached _ _ (BuiltIns b) = built_in_keeps b
     target_keeps number reached _ _ Nothings = rule.stop_keeps plain written U N T count twins V n h k same.call BadCall
 

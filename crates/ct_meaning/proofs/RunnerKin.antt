@@ -1,37 +1,26 @@
 -- In two such worlds two such runs stay related.
-use Rattle.std.proofs.Common.{◌≡◌, ℕ, zero, suc, ◌+◌, ◌<◌, ◌≤◌, List, [], ◌∷◌, length, take, Bool, true, false, ℤ, Option, Some, None, Result, Ok, Err, refl, sym, ap, subst, ◌∙◌, arith, eqb, ne_eqb}
-use Rattle.std.specs.Prelude.{if◌then◌else◌, option_map, option_and_then, is_some, is_none, slice_get, unsigned_abs, ◌==◌, ◌&&◌, not, nat_lt}
-use Rattle.ct_base.specs.declared.faults.FaultKind.{FaultKind}
-use Rattle.ct_base.specs.declared.faults.FaultKind.TheVariants.{BadCall, NullPointer, MissingReturn}
-use Rattle.ct_report.specs.declared.logs.Verdict.TheVariants.{Fail}
+use Rattle.std.proofs.Common.{◌≡◌, ℕ, ◌<◌, List, [], ◌∷◌, take, Bool, false, Option, Some, None, refl, sym, ap, subst, ◌∙◌, arith, ne_eqb}
+use Rattle.std.specs.Prelude.{option_and_then, slice_get, ◌==◌, ◌&&◌}
 use Rattle.ct_core.specs.declared.values.Space.{Space}
-use Rattle.ct_core.specs.declared.values.Space.TheVariants.{Project, Tool}
+use Rattle.ct_core.specs.declared.values.Space.TheVariants.{Project}
 use Rattle.ct_core.specs.declared.values.Pointer.{Pointer}
 use Rattle.ct_core.specs.declared.values.Value.{Value}
-use Rattle.ct_core.specs.declared.values.Value.TheVariants.{Void, Int, Null, Object, Function, Struct}
 use Rattle.ct_core.specs.declared.objects.Object.{Object as Stored}
-use Rattle.ct_core.specs.declared.objects.Scalar.{Scalar}
 use Rattle.ct_core.specs.declared.trees.Mark.{Mark}
-use Rattle.ct_core.specs.declared.testing.TestState.{TestState}
-use Rattle.ct_core.specs.declared.built_ins.BuiltIn.{BuiltIn}
-use Rattle.ct_core.specs.declared.built_ins.BuiltIn.TheVariants.{AssertEqualInt, RunCall, RunEnd, RunPhase, RunTest}
 use Rattle.ct_core.specs.declared.objects.Kind.TheVariants.{Automatic}
 use Rattle.ct_core.specs.declared.units.CoreUnit.{CoreUnit}
 use Rattle.ct_core.specs.declared.units.Variable.{Variable}
 use Rattle.ct_core.specs.Memory.{Memory, next_pointer, new_object, with_new}
-use Rattle.ct_core.specs.Testing.{judged}
 use Rattle.ct_meaning.specs.declared.state.State.{State}
 use Rattle.ct_meaning.specs.declared.state.Place.{Place}
-use Rattle.ct_meaning.specs.Doing.{Outcome, Does, pure}
-use Rattle.ct_meaning.specs.World.{World, Where, Target, Outside, Defined, Given, target_of, unit_space, space_of, variable_at, variable_of, number_of}
-use Rattle.ct_meaning.specs.Rules.{given, used, truth_in, apply_binary, apply_conversion, binary_value, converted_value, variable, address_in, literal, designator, function_value, load, store, initialise, begin_objects, end_objects, variable_memory, object_bytes, structs_of, without_objects, begun, begun_in, equal_check, failed_at, assert_equal_int, can_begin, run_test, in_test, run_end, run_phase, run_call, stop}
-use Rattle.ct_meaning.specs.Meaning.{Calls, enter, call_target, call_value, handed_call, built_in, apply_call, scalar_of_variable, initialise_parameter}
+use Rattle.ct_meaning.specs.Doing.{Does}
+use Rattle.ct_meaning.specs.World.{World, Where, unit_space, space_of, variable_at, variable_of}
+use Rattle.ct_meaning.specs.Rules.{begin_objects, end_objects, variable_memory, object_bytes, structs_of, begun, begun_in}
 use Rattle.ct_meaning.specs.Program.{left_in}
-use Rattle.ct_meaning.specs.Linked.{is_ordinary}
-use Rattle.ct_meaning.proofs.Related.{Agree, Keeps, Always, Equal, Each, Entry, PlaceIn, SameCall, SameWhere, Kin, done, bind, weaker}
-use Rattle.ct_meaning.proofs.Numbers.{Any, same_where, same_frame, same_values}
+use Rattle.ct_meaning.proofs.Related.{Agree, Keeps, Equal, Each, Entry, PlaceIn, SameCall, SameWhere}
+use Rattle.ct_meaning.proofs.Numbers.{Any, same_where, same_frame}
 use Rattle.ct_meaning.proofs.ToolMemory.{Own, own_front, put, next_put, new_put, without_put}
-use Rattle.ct_meaning.proofs.RunnerValues.{Safe, SameValue, SafeResult, safe_used, safe_address, safe_converted, safe_binary}
+use Rattle.ct_meaning.proofs.RunnerValues.{SameValue}
 use Rattle.ct_meaning.proofs.RunnerRules.{Targets, Functions, Empties, BuiltIns, Nothings, Twins, Going, with_tool, SameRun, still_running}
 use Rattle.ct_meaning.proofs.RunnerRules as rule
 
@@ -80,13 +69,19 @@ module _ (U N : ℕ → Type 0) where
     pub where_same : h ≡ k
     where_same = same_where h k (record {
       call = record { level = same.call.level; place = same.call.place; known = known_any };
-      deep = tt; unit = same.unit; within = tt; function = same.function; frame = equal_frame h.frame k.frame same.frame;
+      deep = tt;
+      unit = same.unit;
+      within = tt;
+      function = same.function;
+      frame = equal_frame h.frame k.frame same.frame;
     })
 
     pub inside : Inside U h
     inside = record {
       call = record { level = refl; place = refl; known = same.call.known };
-      deep = same.deep; unit = same.within; frame = own_frame h.frame k.frame same.frame;
+      deep = same.deep;
+      unit = same.within;
+      frame = own_frame h.frame k.frame same.frame;
     }
 
   pub where_inside : (h : Where) → Inside U h → SameWhere U Deep (SameValue N) h h

@@ -1,110 +1,130 @@
--- The names of the functions of a test file and its runner.
-use Rattle.std.proofs.Common.{◌≡◌, ℕ, zero, suc, ◌+◌, List, [], ◌∷◌, ◌++◌, Bool, true, false, Option, Some, None, refl, sym, ap, subst, ◌∙◌}
-use Rattle.std.specs.Prelude.{slice_get, bytes_eq, position, codes, ◌&&◌, ◌||◌}
-use Rattle.std.specs.List.{list_any}
-use Rattle.std.proofs.lemmas.Option.{none-some, same_Some}
+-- What the names in a runner's `main` mean.
+use Rattle.std.proofs.Common.{◌≡◌, ◌≢◌, ℕ, suc, List, [], ◌∷◌, length, Bool, true, false, cond, Option, Some, refl, sym, ap, subst, ◌∙◌}
+use Rattle.std.specs.Prelude.{slice_get, bytes_eq, codes, filter, unwrap_or, ◌&&◌, ◌||◌, ◌==◌, option_and_then, nat_eq}
+use Rattle.std.specs.List.{list_any, starts_with}
+use Rattle.std.proofs.lemmas.Option.{same_Some, slice_get_within}
 use Rattle.std.proofs.lemmas.Slice.Eq.{bytes_eq-Decides}
 use Rattle.ct_core.specs.declared.units.CoreUnit.{CoreUnit}
 use Rattle.ct_core.specs.declared.units.CoreFunction.{CoreFunction}
-use Rattle.ct_core.specs.declared.units.Linkage.{Linkage}
-use Rattle.ct_core.specs.BuiltIns.{built_in_of}
-use Rattle.ct_meaning.specs.World.{is_external}
-use Rattle.ct_meaning.specs.Runner.{missing, main_function, runner_unit}
-use Rattle.ct_meaning.specs.Written.{defines}
-use Rattle.ct_meaning.specs.Linked.{function_in, runner_of}
-use Rattle.ct_meaning.specs.Table.{HaveNames}
+use Rattle.ct_core.specs.declared.units.Definition.{Definition}
+use Rattle.ct_meaning.specs.World.{World, is_external, common_number}
+use Rattle.ct_meaning.specs.Written.{defines, functions_of, is_test, is_void, has_test_name}
+use Rattle.ct_meaning.specs.Runner.{empty_function}
+use Rattle.ct_meaning.specs.Linked.{IsLinked, IsTestProject, IsProjectUnit, IsProjectFunction, function_in, definition_of}
+use Rattle.ct_meaning.proofs.Spends.{first_true, second_true}
+use Rattle.ct_meaning.proofs.Positions.{all_at}
+use Rattle.ct_meaning.proofs.RunnerUnit.{main, set_up, tear_down, set_up_at, tear_down_at, function_before}
+use Rattle.ct_meaning.proofs.RunnerLink.{tests_in, runner, all, plain, written, function_runner, common_same, common_of, runner_number, target_defined}
+use Rattle.ct_meaning.proofs.RunnerTargets.{Reached}
+use Rattle.ct_meaning.proofs.RunnerSteps.{Means}
 
--- ---- names that a unit defines
-
-any_at : {X : Type 0} (p : X → Bool) (xs : List X) (k : ℕ) (x : X) → slice_get xs k ≡ Some x → p x ≡ true → list_any p xs ≡ true
-any_at {X} p [] k x h passes = absurd (none-some x h)
-any_at {X} p (y ∷ xs) zero x h passes =
-    let P : Bool → Type 0 = λ b. b || list_any p xs ≡ true in
-    subst P (sym (ap p (same_Some y x h) ∙ passes)) refl
-any_at {X} p (y ∷ xs) (suc k) x h passes = either (p y) (any_at p xs k x h passes)
+-- an element that passes a test
+pub any_at : {X : Type 0} (p : X → Bool) (xs : List X) → list_any p xs ≡ true → (k : ℕ) × (x : X) × (slice_get xs k ≡ Some x) × (p x ≡ true)
+any_at {X} p [] e = cc
+any_at {X} p (x ∷ xs) e = at (p x) refl (any_at p xs) e
   where
-    either : (b : Bool) → list_any p xs ≡ true → b || list_any p xs ≡ true
-    either true e = refl
-    either false e = e
+    at : (b : Bool) → p x ≡ b → (list_any p xs ≡ true → (k : ℕ) × (y : X) × (slice_get xs k ≡ Some y) × (p y ≡ true)) → (b || list_any p xs) ≡ true
+        → (k : ℕ) × (y : X) × (slice_get (x ∷ xs) k ≡ Some y) × (p y ≡ true)
+    at true is further e = (0, x, refl, is)
+    at false is further e = let there = further e in (suc there.0, there.1, there.2, there.3)
 
-both : (a b : Bool) → a ≡ true → b ≡ true → a && b ≡ true
-both true b first second = second
-both false b first second = first
+is_reserved : List ℕ → Bool
+is_reserved name = starts_with nat_eq name (codes "ceedling_run_")
 
--- a unit defines the name of each function of external linkage
-defined_name : (unit : CoreUnit) (place : ℕ) (f : CoreFunction) (name : List ℕ) → slice_get unit.functions place ≡ Some f → is_external f.linkage ≡ true → f.name ≡ name
-    → defines (unit ∷ []) name ≡ true
-defined_name unit place f name at external named =
-    any_at (λ (f : CoreFunction). bytes_eq f.name name && is_external f.linkage) unit.functions place f at
-    (both (bytes_eq f.name name) (is_external f.linkage) ((bytes_eq-Decides f.name name).1 named) external)
+module _ (units : List CoreUnit) (table : List Definition) (budget : ℕ) (path : List ℕ) (project : IsTestProject units) (linked : IsLinked (all units table budget path) table) where
+  abbrev P : World
+  P = plain units table budget path
 
--- ---- the functions of the runner
+  abbrev W : World
+  W = written units table budget path
 
-abbrev own_functions : Bool → Bool → List (List ℕ × ℕ) → List CoreFunction
-own_functions set_up tear_down tests = missing set_up (codes "setUp") ++ missing tear_down (codes "tearDown") ++ main_function tests ∷ []
+  -- ---- functions
 
--- a function of the runner is the only one of its name, which neither the test file defines nor is built in
-record Part (defined : List ℕ → Bool) (all : List CoreFunction) (place : ℕ) (f : CoreFunction) : Type 0 where
-  one : position (λ (g : CoreFunction). bytes_eq g.name f.name) all ≡ Some place
-  free : built_in_of f.name ≡ None
-  new : defined f.name ≡ false
+  -- the function of external linkage that a name means in the runner, as in the written meaning
+  pub record Fixture (name : List ℕ) : Type 0 where
+    pub means : Means P (length units) name (unwrap_or (common_number W name) 0)
+    pub reached : Reached units table budget path project linked (unwrap_or (common_number W name) 0)
 
-module _ (defined : List ℕ → Bool) (main : defined (codes "main") ≡ false) (tests : List (List ℕ × ℕ)) where
-  abbrev IsPart : Bool → Bool → ℕ → CoreFunction → Type 0
-  IsPart set_up tear_down place f = Part defined (own_functions set_up tear_down tests) place f
+  fixture_of : (name : List ℕ) (unit place : ℕ) (f : CoreFunction) → function_in (all units table budget path) unit place ≡ Some f → is_external f.linkage ≡ true → f.name ≡ name → name ≢ main → Fixture name
+  fixture_of name unit place f is external same other =
+      let found = common_of units table budget path linked name unit place f is external same in
+      let here : unwrap_or (common_number W name) 0 ≡ found.number = ap (λ (o : Option ℕ). unwrap_or o 0) (sym (common_same units table budget path name) ∙ found.is_number) in
+      let stands : slice_get table (unwrap_or (common_number W name) 0) ≡ Some (definition_of f unit place) = ap (λ (k : ℕ). slice_get table k) here ∙ found.stands in
+      record {
+        means = record {
+          is_number = runner_number units table budget path linked name ∙ found.is_number ∙ ap (λ (k : ℕ). Some k) (sym here);
+          in_unit = unit;
+          place = place;
+          function = f;
+          target = target_defined units table budget path linked (unwrap_or (common_number W name) 0) unit place f stands is;
+        };
+        reached = λ d at e. other (sym same ∙ ap (λ (x : Definition). x.name) (same_Some (definition_of f unit place) d (sym stands ∙ at)) ∙ e);
+      }
 
-  part : (set_up tear_down : Bool) → defined (codes "setUp") ≡ set_up → defined (codes "tearDown") ≡ tear_down
-      → (place : ℕ) (f : CoreFunction) → slice_get (own_functions set_up tear_down tests) place ≡ Some f → IsPart set_up tear_down place f
-  unfolding built_in_of
-  part true true first second zero f h = subst (IsPart true true 0) (same_Some _ f h) (record { one = refl; free = refl; new = main })
-  part true true first second (suc place) f h = absurd (none-some f h)
-  part true false first second zero f h = subst (IsPart true false 0) (same_Some _ f h) (record { one = refl; free = refl; new = second })
-  part true false first second (suc zero) f h = subst (IsPart true false 1) (same_Some _ f h) (record { one = refl; free = refl; new = main })
-  part true false first second (suc (suc place)) f h = absurd (none-some f h)
-  part false true first second zero f h = subst (IsPart false true 0) (same_Some _ f h) (record { one = refl; free = refl; new = first })
-  part false true first second (suc zero) f h = subst (IsPart false true 1) (same_Some _ f h) (record { one = refl; free = refl; new = main })
-  part false true first second (suc (suc place)) f h = absurd (none-some f h)
-  part false false first second zero f h = subst (IsPart false false 0) (same_Some _ f h) (record { one = refl; free = refl; new = first })
-  part false false first second (suc zero) f h = subst (IsPart false false 1) (same_Some _ f h) (record { one = refl; free = refl; new = second })
-  part false false first second (suc (suc zero)) f h = subst (IsPart false false 2) (same_Some _ f h) (record { one = refl; free = refl; new = main })
-  part false false first second (suc (suc (suc place))) f h = absurd (none-some f h)
+  first_function : (place : ℕ) (f : CoreFunction) → slice_get project.first.functions place ≡ Some f → function_in (all units table budget path) 0 place ≡ Some f
+  first_function place f at =
+      function_before units (runner units table budget path) 0 place (slice_get_within units 0 project.first project.is_first)
+      ∙ ap (λ (o : Option CoreUnit). option_and_then (λ (u : CoreUnit). slice_get u.functions place) o) project.is_first ∙ at
 
--- ---- a test file and its runner
+  defined_first : (name : List ℕ) → defines units name ≡ true → name ≢ main → Fixture name
+  defined_first name e other =
+      let p : CoreFunction → Bool = λ (f : CoreFunction). bytes_eq f.name name && is_external f.linkage in
+      let first : list_any p project.first.functions ≡ true = sym (ap (λ (o : Option CoreUnit). list_any p (functions_of o)) project.is_first) ∙ e in
+      let there = any_at p project.first.functions first in
+      fixture_of name 0 there.0 there.1 (first_function there.0 there.1 there.2) (second_true _ _ there.3) ((bytes_eq-Decides there.1.name name).0 (first_true _ _ there.3)) other
 
-module _ (unit : CoreUnit) (path : List ℕ) (names : HaveNames (unit ∷ [])) (main : defines (unit ∷ []) (codes "main") ≡ false) where
-  abbrev runner : CoreUnit
-  runner = runner_of path (unit ∷ [])
+  pub set_up_fixture : Fixture set_up
+  set_up_fixture = by (defines units set_up) refl
+    where
+      by : (b : Bool) → defines units set_up ≡ b → Fixture set_up
+      by true e = defined_first set_up e (λ d. cc)
+      by false e =
+          let at = set_up_at (tests_in units) (defines units set_up) (defines units tear_down) e in
+          fixture_of set_up (length units) at.0 (empty_function set_up) (function_runner units table budget path at.0 ∙ at.1) refl refl (λ d. cc)
 
-  own_part : (place : ℕ) (f : CoreFunction) → slice_get runner.functions place ≡ Some f → Part (defines (unit ∷ [])) runner.functions place f
-  unfolding runner_unit
-  own_part place f h = part (defines (unit ∷ [])) main _ (defines (unit ∷ []) (codes "setUp")) (defines (unit ∷ []) (codes "tearDown")) refl refl place f h
+  pub tear_down_fixture : Fixture tear_down
+  tear_down_fixture = by (defines units tear_down) refl
+    where
+      by : (b : Bool) → defines units tear_down ≡ b → Fixture tear_down
+      by true e = defined_first tear_down e (λ d. cc)
+      by false e =
+          let at = tear_down_at (tests_in units) (defines units set_up) (defines units tear_down) e in
+          fixture_of tear_down (length units) at.0 (empty_function tear_down) (function_runner units table budget path at.0 ∙ at.1) refl refl (λ d. cc)
 
-  apart : (place other : ℕ) (f g : CoreFunction) → slice_get unit.functions place ≡ Some f → slice_get runner.functions other ≡ Some g
-      → is_external f.linkage ≡ true → f.name ≡ g.name → ⊥
-  apart place other f g hf hg external same =
-      let new : false ≡ true = sym (own_part other g hg).new ∙ defined_name unit place f g.name hf external same in
-      cc
+  -- ---- tests
 
-  same_place : (place other : ℕ) (f g : CoreFunction) → slice_get runner.functions place ≡ Some f → slice_get runner.functions other ≡ Some g
-      → f.name ≡ g.name → place ≡ other
-  same_place place other f g hf hg same =
-      same_Some place other
-      (sym (own_part place f hf).one ∙ ap (λ (name : List ℕ). position (λ (h : CoreFunction). bytes_eq h.name name) runner.functions) same ∙ (own_part other g hg).one)
+  pub record IsTest (f : CoreFunction) : Type 0 where
+    pub own : IsProjectFunction f
+    pub fixture : Fixture f.name
 
-  once : (u p v q : ℕ) (f g : CoreFunction) → function_in (unit ∷ runner ∷ []) u p ≡ Some f → function_in (unit ∷ runner ∷ []) v q ≡ Some g
-      → is_external f.linkage ≡ true → is_external g.linkage ≡ true → f.name ≡ g.name → (u ≡ v) × (p ≡ q)
-  once zero p zero q f g hf hg ef eg same = names.once 0 p 0 q f g hf hg ef eg same
-  once zero p (suc zero) q f g hf hg ef eg same = absurd (apart p q f g hf hg ef same)
-  once (suc zero) p zero q f g hf hg ef eg same = absurd (apart q p g f hg hf eg (sym same))
-  once (suc zero) p (suc zero) q f g hf hg ef eg same = (refl, same_place p q f g hf hg same)
-  once (suc (suc u)) p v q f g hf hg ef eg same = absurd (none-some f hf)
-  once zero p (suc (suc v)) q f g hf hg ef eg same = absurd (none-some g hg)
-  once (suc zero) p (suc (suc v)) q f g hf hg ef eg same = absurd (none-some g hg)
+  test_name : (f : CoreFunction) → is_test f ≡ true → f.name ≢ main
+  test_name f test e =
+      let named : has_test_name f.name ≡ true = second_true (is_external f.linkage && is_void f.kind.result && f.parameters == 0) (has_test_name f.name) test in
+      let wrong : has_test_name main ≡ true = subst (λ (x : List ℕ). has_test_name x ≡ true) e named in cc
 
-  free : (u p : ℕ) (f : CoreFunction) → function_in (unit ∷ runner ∷ []) u p ≡ Some f → is_external f.linkage ≡ true → built_in_of f.name ≡ None
-  free zero p f h external = names.own 0 p f h external
-  free (suc zero) p f h external = (own_part p f h).free
-  free (suc (suc u)) p f h external = absurd (none-some f h)
+  test_external : (f : CoreFunction) → is_test f ≡ true → is_external f.linkage ≡ true
+  test_external f test = first_true _ _ (first_true _ _ (first_true _ _ test))
 
-  pub with_runner : HaveNames (unit ∷ runner_of path (unit ∷ []) ∷ [])
-  with_runner = record { once = once; own = free }
+  abbrev pub AllTests : List CoreFunction → Type 0
+  AllTests [] = Unit {0}
+  AllTests (f ∷ fs) = IsTest f × AllTests fs
+
+  tests_of_all : (fs : List CoreFunction) → ((k : ℕ) (f : CoreFunction) → slice_get fs k ≡ Some f → (place : ℕ) × (slice_get project.first.functions place ≡ Some f)) → AllTests (filter is_test fs)
+  tests_of_all [] at = tt
+  tests_of_all (f ∷ fs) at = by (is_test f) refl (tests_of_all fs (λ k g is. at (suc k) g is))
+    where
+      by : (b : Bool) → is_test f ≡ b → AllTests (filter is_test fs) → AllTests (cond b (f ∷ filter is_test fs) (filter is_test fs))
+      by true e rest =
+          let here = at 0 f refl in (
+            record {
+              own = all_at IsProjectFunction project.first.functions here.0 f (all_at IsProjectUnit units 0 project.first project.own project.is_first).functions here.1;
+              fixture = fixture_of f.name 0 here.0 f (first_function here.0 f here.1) (test_external f e) refl (test_name f e);
+            },
+            rest,
+          )
+      by false e rest = rest
+
+  pub tests_all : AllTests (filter is_test (functions_of (slice_get units 0)))
+  tests_all =
+      subst (λ (o : Option CoreUnit). AllTests (filter is_test (functions_of o))) (sym project.is_first)
+      (tests_of_all project.first.functions (λ k f at. (k, at)))

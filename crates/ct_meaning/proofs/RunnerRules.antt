@@ -1,40 +1,30 @@
 -- Two worlds in which the code of the Project units is the same, and two runs of it: one with what lies in the Tool space.
-use Rattle.std.proofs.Common.{◌≡◌, ℕ, zero, suc, ◌+◌, ◌-◌, ◌<◌, ◌≤◌, List, [], ◌∷◌, length, take, Bool, true, false, cond, ℤ, Option, Some, None, Result, Ok, Err, refl, sym, ap, subst, ◌∙◌, arith, nat_lt, ltb-true, eqb}
-use Rattle.std.specs.Prelude.{if◌then◌else◌, option_map, is_some, find, slice_get, unsigned_abs, ◌==◌, ◌&&◌}
-use Rattle.std.proofs.lemmas.Option.{none-some, same_Some}
+use Rattle.std.proofs.Common.{◌≡◌, ℕ, suc, ◌-◌, ◌<◌, List, Bool, true, false, Option, Some, None, Result, Ok, Err, refl, sym, ap, subst, ◌∙◌, arith, nat_lt, ltb-true}
+use Rattle.std.specs.Prelude.{if◌then◌else◌, option_map, is_some, slice_get}
 use Rattle.ct_base.specs.declared.faults.FaultKind.{FaultKind}
-use Rattle.ct_base.specs.declared.faults.FaultKind.TheVariants.{DeadObject, BadCall, StepBudget, CallDepth}
-use Rattle.ct_base.specs.declared.operators.BinaryOp.{BinaryOp}
-use Rattle.ct_ctype.specs.declared.kinds.IntKind.{IntKind}
-use Rattle.ct_ctype.specs.Operation.{binary_result}
-use Rattle.ct_report.specs.declared.logs.Verdict.TheVariants.{Fail}
-use Rattle.ct_core.specs.declared.values.Space.{Space}
-use Rattle.ct_core.specs.declared.values.Space.TheVariants.{Project, Tool}
-use Rattle.ct_core.specs.declared.values.Pointer.{Pointer}
+use Rattle.ct_base.specs.declared.faults.FaultKind.TheVariants.{BadCall, StepBudget, CallDepth}
+use Rattle.ct_core.specs.declared.values.Space.TheVariants.{Project}
 use Rattle.ct_core.specs.declared.values.Value.{Value}
-use Rattle.ct_core.specs.declared.values.Value.TheVariants.{Void, Int, Null, Object, Function, Struct}
 use Rattle.ct_core.specs.declared.objects.Object.{Object as Stored}
 use Rattle.ct_core.specs.declared.objects.Scalar.{Scalar}
-use Rattle.ct_core.specs.declared.objects.Scalar.TheVariants as scalar
 use Rattle.ct_core.specs.declared.testing.TestState.{TestState}
 use Rattle.ct_core.specs.declared.units.CoreFunction.{CoreFunction}
 use Rattle.ct_core.specs.declared.built_ins.BuiltIn.{BuiltIn}
-use Rattle.ct_core.specs.Memory.{Memory, next_pointer}
-use Rattle.ct_core.specs.Access.{and_then, value_in, reached_object, load_result, store_result, initialise_result}
-use Rattle.ct_core.specs.Testing.{judged}
+use Rattle.ct_core.specs.Memory.{Memory}
+use Rattle.ct_core.specs.Access.{and_then}
 use Rattle.ct_meaning.specs.declared.state.State.{State}
 use Rattle.ct_meaning.specs.declared.state.Place.{Place}
 use Rattle.ct_meaning.specs.Doing.{Outcome, Does, pure}
-use Rattle.ct_meaning.specs.World.{World, Where, Row, Empty, Target, Outside, Defined, Given, target_of, unit_space, function_at, number_of, object_in, text_pointer, variable_at, variable_of}
-use Rattle.ct_meaning.specs.Rules.{stop, failed, failed_test, file_of, given, used, truth_in, number_in, any_number_in, scalar_in, number_value, right_number, binary_value, converted_value, apply_binary, apply_conversion, variable, address_in, literal, designator, function_value, pointer_in, value_from, load, with_value, stored_value, first_value, changed, store, initialise, begin_objects, end_objects, variable_memory, without_objects, check_level, level_limit, take_step}
-use Rattle.ct_meaning.specs.Meaning.{scalar_of_variable, initialise_parameter}
+use Rattle.ct_meaning.specs.World.{World, Where, Empty, Target, Outside, Defined, Given, target_of, unit_space, function_at, number_of, text_pointer}
+use Rattle.ct_meaning.specs.Rules.{stop, failed, failed_test, given, address_in, value_from, load, stored_value, first_value, changed, store, initialise, check_level, level_limit, take_step}
+use Rattle.ct_meaning.specs.Meaning.{initialise_parameter}
 use Rattle.ct_meaning.specs.Program.{left_in}
 use Rattle.ct_meaning.specs.Runner.{empty_function}
 use Rattle.ct_meaning.specs.Names.{statement_names}
 use Rattle.ct_meaning.specs.Linked.{is_ordinary}
-use Rattle.ct_meaning.proofs.Related.{Agree, Lower, Keeps, Always, Equal, PlaceIn, SameCall, done}
+use Rattle.ct_meaning.proofs.Related.{Agree, Lower, Keeps, Always, PlaceIn, SameCall, done}
 use Rattle.ct_meaning.proofs.Spends.{stop_spends}
-use Rattle.ct_meaning.proofs.ToolMemory.{Own, own_front, put, next_put, new_put, without_put}
+use Rattle.ct_meaning.proofs.ToolMemory.{Own, put}
 use Rattle.ct_meaning.proofs.RunnerValues.{Safe, SameValue, SafeResult, SafeStored, safe_address, safe_loaded, safe_stored, safe_first, put_stored, from_put, stored_put, first_put}
 
 -- ---- two worlds
@@ -44,7 +34,7 @@ use Rattle.ct_meaning.proofs.RunnerValues.{Safe, SameValue, SafeResult, SafeStor
 pub data Targets (plain : World) (U : ℕ → Type 0) : Option Target → Option Target → Type 0 where
   Functions : (unit place : ℕ) (f : CoreFunction) → U unit → statement_names is_ordinary f.body ≡ true
       → Targets plain U (Some (Defined unit place f)) (Some (Defined unit place f))
-  Empties : (unit place : ℕ) (name : List ℕ) → function_at plain unit place ≡ Some (empty_function name) → unit_space plain unit ≡ Tool
+  Empties : (unit place : ℕ) (name : List ℕ) → function_at plain unit place ≡ Some (empty_function name)
       → Targets plain U (Some (Defined unit place (empty_function name))) (Some (Outside Empty))
   BuiltIns : (b : BuiltIn) → Targets plain U (Some (Given b)) (Some (Given b))
   Nothings : Targets plain U None None

@@ -1,5 +1,5 @@
 -- The values that Project code may have, and what the rules on values give.
-use Rattle.std.proofs.Common.{◌≡◌, ℕ, ◌+◌, List, [], ◌∷◌, Bool, true, false, cond, ℤ, Option, Some, None, Result, Ok, Err, refl, sym, ap, subst, ◌∙◌, eqb}
+use Rattle.std.proofs.Common.{◌≡◌, ℕ, ◌+◌, List, [], ◌∷◌, Bool, true, false, cond, ℤ, Option, Some, None, Result, Ok, Err, refl, ap, subst, ◌∙◌, eqb}
 use Rattle.std.specs.Prelude.{if◌then◌else◌, slice_range, option_map, find, pos}
 use Rattle.std.proofs.lemmas.Option.{none-some, same_Some}
 use Rattle.ct_base.specs.declared.faults.FaultKind.{FaultKind}
@@ -88,6 +88,7 @@ module _ (N : ℕ → Type 0) where
       right : (a : ℤ) (r : Result ℤ FaultKind) → SafeResult N (and_then r (λ b. number_value (binary_result op k a b)))
       right a (Ok b) = safe_number (binary_result op k a b)
       right a (Err fault) = tt
+
       left : (r : Result ℤ FaultKind) → SafeResult N (and_then r (λ a. and_then (right_number op k y) (λ b. number_value (binary_result op k a b))))
       left (Ok a) = right a (right_number op k y)
       left (Err fault) = tt

@@ -136,7 +136,7 @@ second_true true b e = e
 second_true false b e = cc
 
 module _ (w : World) (h : Where) where
-  began : (name : List ℕ) (line : ℕ) (s : State) → can_begin w h s ≡ true → left_in w.budget (with_test w name line s) ≤ left_in w.budget s
+  pub began : (name : List ℕ) (line : ℕ) (s : State) → can_begin w h s ≡ true → left_in w.budget (with_test w name line s) ≤ left_in w.budget s
   began name line s e =
       let none : is_none s.test ≡ true = second_true _ _ (first_true _ _ e) in
       let few : s.begun < 1000 = ltb-true s.begun 1000 (second_true _ _ e) in
@@ -158,7 +158,7 @@ module _ (w : World) (h : Where) where
   unfolding run_test
   run_test_spends values = record { at = λ s. run_test_at (can_begin w h s) s (test_check values s.memory) refl }
 
-  end_at : (b : Bool) (s : State) → in_test h s ≡ b → left_in w.budget (if b then without_test s else s) ≤ left_in w.budget s
+  pub end_at : (b : Bool) (s : State) → in_test h s ≡ b → left_in w.budget (if b then without_test s else s) ≤ left_in w.budget s
   end_at false s e = omega arith
   end_at true s e = let open_test = some_left s.test (second_true _ _ e) in omega (arith, open_test)
 

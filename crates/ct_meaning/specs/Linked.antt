@@ -1,13 +1,14 @@
 -- What a table of definitions says of units, and what the units of a test project are.
-use Rattle.std.specs.Prelude.{◌≡◌, ◌≢◌, ℕ, ◌<◌, ◌≤◌, Bool, true, false, not, List, map, All, length, filter, bytes_eq, slice_get, Option, Some, None, option_and_then, codes}
+use Rattle.std.specs.Prelude.{◌≡◌, ◌≢◌, ℕ, suc, ◌<◌, ◌≤◌, Bool, true, false, not, ◌&&◌, List, [], ◌∷◌, ◌++◌, map, All, length, filter, bytes_eq, slice_get, Option, Some, None, option_and_then, codes}
 use Rattle.std.specs.Prelude.{nat_eq}
-use Rattle.std.specs.List.{starts_with}
+use Rattle.std.specs.List.{list_any, starts_with}
 use Rattle.ct_core.specs.declared.values.Space.TheVariants.{Project}
 use Rattle.ct_core.specs.declared.built_ins.BuiltIn.{BuiltIn}
 use Rattle.ct_core.specs.declared.units.CoreUnit.{CoreUnit}
 use Rattle.ct_core.specs.declared.units.CoreFunction.{CoreFunction}
 use Rattle.ct_core.specs.declared.units.Definition.{Definition}
-use Rattle.ct_core.specs.BuiltIns.{built_in_of}
+use Rattle.ct_core.specs.BuiltIns.{built_in_rows, built_in_of}
+use Rattle.ct_core.specs.BuiltIns.{Row as BuiltInRow}
 use Rattle.ct_meaning.specs.World.{is_external}
 use Rattle.ct_meaning.specs.Names.{statement_names}
 use Rattle.ct_meaning.specs.Written.{is_test, functions_of, defines}
@@ -51,6 +52,33 @@ pub record IsLinked (units : List CoreUnit) (functions : List Definition) : Type
   -- a name that each unit may name has one definition
   pub one : (i j : ℕ) (d e : Definition) → slice_get functions i ≡ Some d → slice_get functions j ≡ Some e
       → d.name ≡ e.name → is_shared units d ≡ true → is_shared units e ≡ true → i ≡ j
+
+-- ---- a table in order: the functions of each unit, and then what is built in and no unit defines
+
+abbrev pub definitions_from : ℕ → ℕ → List CoreFunction → List Definition
+definitions_from unit place [] = []
+definitions_from unit place (f ∷ fs) = definition_of f unit place ∷ definitions_from unit (suc place) fs
+
+abbrev pub unit_definitions : ℕ → List CoreUnit → List Definition
+unit_definitions unit [] = []
+unit_definitions unit (u ∷ units) = definitions_from unit 0 u.functions ++ unit_definitions (suc unit) units
+
+-- whether a unit defines a function of this name with external linkage
+abbrev pub is_defined : List CoreUnit → List ℕ → Bool
+is_defined units name = list_any (λ (u : CoreUnit). list_any (λ (f : CoreFunction). bytes_eq f.name name && is_external f.linkage) u.functions) units
+
+abbrev pub built_in_definitions : List CoreUnit → List Definition
+built_in_definitions units =
+    map (λ (row : BuiltInRow). record { name = row.0; unit = length units; place = 0 }) (filter (λ (row : BuiltInRow). not (is_defined units row.0)) built_in_rows)
+
+abbrev pub table_in_order : List CoreUnit → List Definition
+table_in_order units = unit_definitions 0 units ++ built_in_definitions units
+
+-- no two functions of external linkage have one name
+abbrev pub AreNamedApart : List CoreUnit → Type 0
+AreNamedApart units =
+    (unit place other at : ℕ) (f g : CoreFunction) → function_in units unit place ≡ Some f → function_in units other at ≡ Some g
+    → is_external f.linkage ≡ true → is_external g.linkage ≡ true → f.name ≡ g.name → (unit ≡ other) × (place ≡ at)
 
 -- ---- the units of a test project
 

@@ -1,6 +1,6 @@
 use Rattle.std.proofs.Common.{sym, ◌∙◌, ap}
 use Rattle.ct_meaning.specs.Table.{table_of}
-use Rattle.ct_meaning.proofs.RunnerPhases.{same_log}
+use Rattle.ct_meaning.proofs.RunnerLog.{same_log}
 use Rattle.ct_meaning.proofs.runner.test_log.Goals as goal
 
 pub returns : goal.returns

@@ -1,9 +1,5 @@
-use Rattle.ct_meaning.proofs.RunnerCalls as runner_calls
-use Rattle.ct_meaning.proofs.RunnerKin as runner_kin
-use Rattle.ct_meaning.proofs.RunnerRules as runner_rules
-use Rattle.ct_meaning.proofs.ToolMemory as tool_memory
-use Rattle.ct_meaning.proofs.Positions as positions
+use Rattle.ct_meaning.proofs.Runner.{log_same}
 use Rattle.ct_meaning.proofs.runner_law.runner_runs_the_phases.Goals as goal
 
 pub returns : goal.returns
-returns c = ?
+returns c = log_same
