@@ -31,7 +31,6 @@ pub mod Spends
 pub mod Steps
 pub mod Strings
 pub mod TableInOrder
-pub mod Tables
 pub mod Texts
 pub mod ToolMemory
 pub mod Verdicts

@@ -1,110 +1,139 @@
--- The names of the functions of a test file and its runner.
-use Rattle.std.proofs.Common.{◌≡◌, ℕ, zero, suc, ◌+◌, List, [], ◌∷◌, ◌++◌, Bool, true, false, Option, Some, None, refl, sym, ap, subst, ◌∙◌}
-use Rattle.std.specs.Prelude.{slice_get, bytes_eq, position, codes, ◌&&◌, ◌||◌}
-use Rattle.std.specs.List.{list_any}
+-- What names mean in the units of a test project, with their runner and without it.
+use Rattle.std.proofs.Common.{◌≡◌, ◌⊎◌, inl, inr, ℕ, ◌<◌, List, [], ◌∷◌, ◌++◌, length, map, Bool, true, Option, Some, None, refl, sym, ap, subst, ◌∙◌, arith, eqb-true}
+use Rattle.std.specs.Prelude.{slice_get, position, bytes_eq, filter, ◌&&◌, ◌==◌}
 use Rattle.std.proofs.lemmas.Option.{none-some, same_Some}
 use Rattle.std.proofs.lemmas.Slice.Eq.{bytes_eq-Decides}
 use Rattle.ct_core.specs.declared.units.CoreUnit.{CoreUnit}
 use Rattle.ct_core.specs.declared.units.CoreFunction.{CoreFunction}
-use Rattle.ct_core.specs.declared.units.Linkage.{Linkage}
-use Rattle.ct_core.specs.BuiltIns.{built_in_of}
-use Rattle.ct_meaning.specs.World.{is_external}
-use Rattle.ct_meaning.specs.Runner.{missing, main_function, runner_unit}
-use Rattle.ct_meaning.specs.Written.{defines}
-use Rattle.ct_meaning.specs.Linked.{function_in, runner_of}
-use Rattle.ct_meaning.specs.Table.{HaveNames}
+use Rattle.ct_core.specs.declared.units.Definition.{Definition}
+use Rattle.ct_meaning.specs.World.{World, is_external, is_common, common_number, own_number, or_else, number_of, Defined, target_of, inner_target, defined_target}
+use Rattle.ct_meaning.specs.Program.{plain_world}
+use Rattle.ct_meaning.specs.Written.{written_world, functions_of, is_test, defines}
+use Rattle.ct_meaning.specs.Linked.{IsLinked, function_in, definition_of, runner_of}
+use Rattle.ct_meaning.specs.Runner.{runner_unit}
+use Rattle.ct_meaning.proofs.Spends.{first_true, second_true}
+use Rattle.ct_meaning.proofs.Positions.{Placed, Found, Nowhere, placed}
+use Rattle.ct_meaning.proofs.RunnerUnit.{set_up, tear_down, functions, of_runner, all_external, side, function_before, function_last, function_past, function_not}
 
--- ---- names that a unit defines
+abbrev pub external_or : Option CoreFunction → Bool
+external_or o = elim o [ Some f ↦ is_external f.linkage | None ↦ true ]
 
-any_at : {X : Type 0} (p : X → Bool) (xs : List X) (k : ℕ) (x : X) → slice_get xs k ≡ Some x → p x ≡ true → list_any p xs ≡ true
-any_at {X} p [] k x h passes = absurd (none-some x h)
-any_at {X} p (y ∷ xs) zero x h passes =
-    let P : Bool → Type 0 = λ b. b || list_any p xs ≡ true in
-    subst P (sym (ap p (same_Some y x h) ∙ passes)) refl
-any_at {X} p (y ∷ xs) (suc k) x h passes = either (p y) (any_at p xs k x h passes)
-  where
-    either : (b : Bool) → list_any p xs ≡ true → b || list_any p xs ≡ true
-    either true e = refl
-    either false e = e
+external_true : (o : Option CoreFunction) → ((f : CoreFunction) → o ≡ Some f → is_external f.linkage ≡ true) → external_or o ≡ true
+external_true (Some f) all = all f refl
+external_true None all = refl
 
-both : (a b : Bool) → a ≡ true → b ≡ true → a && b ≡ true
-both true b first second = second
-both false b first second = first
+pub both : (a b : Bool) → a ≡ true → b ≡ true → (a && b) ≡ true
+both a b e d = let P : Bool → Type 0 = λ x. (x && b) ≡ true in subst P (sym e) d
 
--- a unit defines the name of each function of external linkage
-defined_name : (unit : CoreUnit) (place : ℕ) (f : CoreFunction) (name : List ℕ) → slice_get unit.functions place ≡ Some f → is_external f.linkage ≡ true → f.name ≡ name
-    → defines (unit ∷ []) name ≡ true
-defined_name unit place f name at external named =
-    any_at (λ (f : CoreFunction). bytes_eq f.name name && is_external f.linkage) unit.functions place f at
-    (both (bytes_eq f.name name) (is_external f.linkage) ((bytes_eq-Decides f.name name).1 named) external)
+-- the function of external linkage that a name means, and its number
+pub record Common (w : World) (table : List Definition) (name : List ℕ) (f : CoreFunction) (unit place : ℕ) : Type 0 where
+  pub number : ℕ
+  pub is_number : common_number w name ≡ Some number
+  pub stands : slice_get table number ≡ Some (definition_of f unit place)
 
--- ---- the functions of the runner
+abbrev pub tests_in : List CoreUnit → List (List ℕ × ℕ)
+tests_in units = map (λ (f : CoreFunction). (f.name, f.span.line)) (filter is_test (functions_of (slice_get units 0)))
 
-abbrev own_functions : Bool → Bool → List (List ℕ × ℕ) → List CoreFunction
-own_functions set_up tear_down tests = missing set_up (codes "setUp") ++ missing tear_down (codes "tearDown") ++ main_function tests ∷ []
+module _ (units : List CoreUnit) (table : List Definition) (budget : ℕ) (path : List ℕ) where
+  abbrev pub runner : CoreUnit
+  runner = runner_of path units
 
--- a function of the runner is the only one of its name, which neither the test file defines nor is built in
-record Part (defined : List ℕ → Bool) (all : List CoreFunction) (place : ℕ) (f : CoreFunction) : Type 0 where
-  one : position (λ (g : CoreFunction). bytes_eq g.name f.name) all ≡ Some place
-  free : built_in_of f.name ≡ None
-  new : defined f.name ≡ false
+  abbrev pub all : List CoreUnit
+  all = units ++ runner ∷ []
 
-module _ (defined : List ℕ → Bool) (main : defined (codes "main") ≡ false) (tests : List (List ℕ × ℕ)) where
-  abbrev IsPart : Bool → Bool → ℕ → CoreFunction → Type 0
-  IsPart set_up tear_down place f = Part defined (own_functions set_up tear_down tests) place f
+  abbrev pub plain : World
+  plain = plain_world all table budget
 
-  part : (set_up tear_down : Bool) → defined (codes "setUp") ≡ set_up → defined (codes "tearDown") ≡ tear_down
-      → (place : ℕ) (f : CoreFunction) → slice_get (own_functions set_up tear_down tests) place ≡ Some f → IsPart set_up tear_down place f
-  unfolding built_in_of
-  part true true first second zero f h = subst (IsPart true true 0) (same_Some _ f h) (record { one = refl; free = refl; new = main })
-  part true true first second (suc place) f h = absurd (none-some f h)
-  part true false first second zero f h = subst (IsPart true false 0) (same_Some _ f h) (record { one = refl; free = refl; new = second })
-  part true false first second (suc zero) f h = subst (IsPart true false 1) (same_Some _ f h) (record { one = refl; free = refl; new = main })
-  part true false first second (suc (suc place)) f h = absurd (none-some f h)
-  part false true first second zero f h = subst (IsPart false true 0) (same_Some _ f h) (record { one = refl; free = refl; new = first })
-  part false true first second (suc zero) f h = subst (IsPart false true 1) (same_Some _ f h) (record { one = refl; free = refl; new = main })
-  part false true first second (suc (suc place)) f h = absurd (none-some f h)
-  part false false first second zero f h = subst (IsPart false false 0) (same_Some _ f h) (record { one = refl; free = refl; new = first })
-  part false false first second (suc zero) f h = subst (IsPart false false 1) (same_Some _ f h) (record { one = refl; free = refl; new = second })
-  part false false first second (suc (suc zero)) f h = subst (IsPart false false 2) (same_Some _ f h) (record { one = refl; free = refl; new = main })
-  part false false first second (suc (suc (suc place))) f h = absurd (none-some f h)
+  abbrev pub written : World
+  written = written_world units table budget
 
--- ---- a test file and its runner
-
-module _ (unit : CoreUnit) (path : List ℕ) (names : HaveNames (unit ∷ [])) (main : defines (unit ∷ []) (codes "main") ≡ false) where
-  abbrev runner : CoreUnit
-  runner = runner_of path (unit ∷ [])
-
-  own_part : (place : ℕ) (f : CoreFunction) → slice_get runner.functions place ≡ Some f → Part (defines (unit ∷ [])) runner.functions place f
+  pub runner_functions : runner.functions ≡ functions (tests_in units) (defines units set_up) (defines units tear_down)
   unfolding runner_unit
-  own_part place f h = part (defines (unit ∷ [])) main _ (defines (unit ∷ []) (codes "setUp")) (defines (unit ∷ []) (codes "tearDown")) refl refl place f h
+  runner_functions = refl
 
-  apart : (place other : ℕ) (f g : CoreFunction) → slice_get unit.functions place ≡ Some f → slice_get runner.functions other ≡ Some g
-      → is_external f.linkage ≡ true → f.name ≡ g.name → ⊥
-  apart place other f g hf hg external same =
-      let new : false ≡ true = sym (own_part other g hg).new ∙ defined_name unit place f g.name hf external same in
-      cc
+  pub function_runner : (place : ℕ) → function_in all (length units) place ≡ slice_get (functions (tests_in units) (defines units set_up) (defines units tear_down)) place
+  function_runner place = function_last units runner place ∙ ap (λ (fs : List CoreFunction). slice_get fs place) runner_functions
 
-  same_place : (place other : ℕ) (f g : CoreFunction) → slice_get runner.functions place ≡ Some f → slice_get runner.functions other ≡ Some g
-      → f.name ≡ g.name → place ≡ other
-  same_place place other f g hf hg same =
-      same_Some place other
-      (sym (own_part place f hf).one ∙ ap (λ (name : List ℕ). position (λ (h : CoreFunction). bytes_eq h.name name) runner.functions) same ∙ (own_part other g hg).one)
+  pub shared_last : (d : Definition) → d.unit ≡ length units → is_common plain d ≡ true
+  shared_last d e =
+      external_true (function_in all d.unit d.place) (λ f is.
+      all_external (tests_in units) (defines units set_up) (defines units tear_down) f
+      (of_runner (tests_in units) (defines units set_up) (defines units tear_down) d.place f
+      (sym (ap (λ (u : ℕ). function_in all u d.place) e ∙ function_runner d.place) ∙ is)))
 
-  once : (u p v q : ℕ) (f g : CoreFunction) → function_in (unit ∷ runner ∷ []) u p ≡ Some f → function_in (unit ∷ runner ∷ []) v q ≡ Some g
-      → is_external f.linkage ≡ true → is_external g.linkage ≡ true → f.name ≡ g.name → (u ≡ v) × (p ≡ q)
-  once zero p zero q f g hf hg ef eg same = names.once 0 p 0 q f g hf hg ef eg same
-  once zero p (suc zero) q f g hf hg ef eg same = absurd (apart p q f g hf hg ef same)
-  once (suc zero) p zero q f g hf hg ef eg same = absurd (apart q p g f hg hf eg (sym same))
-  once (suc zero) p (suc zero) q f g hf hg ef eg same = (refl, same_place p q f g hf hg same)
-  once (suc (suc u)) p v q f g hf hg ef eg same = absurd (none-some f hf)
-  once zero p (suc (suc v)) q f g hf hg ef eg same = absurd (none-some g hg)
-  once (suc zero) p (suc (suc v)) q f g hf hg ef eg same = absurd (none-some g hg)
+  pub shared_same : (d : Definition) → is_common plain d ≡ is_common written d
+  shared_same d = at (side (length units) d.unit)
+    where
+      at : (d.unit < length units) ⊎ ((d.unit ≡ length units) ⊎ (length units < d.unit)) → is_common plain d ≡ is_common written d
+      at (inl within) = ap external_or (function_before units runner d.unit d.place within)
+      at (inr (inl e)) = shared_last d e ∙ sym (ap external_or (function_not units runner d.unit d.place (omega arith)))
+      at (inr (inr past)) = ap external_or (function_past units runner d.unit d.place past) ∙ sym (ap external_or (function_not units runner d.unit d.place (omega arith)))
 
-  free : (u p : ℕ) (f : CoreFunction) → function_in (unit ∷ runner ∷ []) u p ≡ Some f → is_external f.linkage ≡ true → built_in_of f.name ≡ None
-  free zero p f h external = names.own 0 p f h external
-  free (suc zero) p f h external = (own_part p f h).free
-  free (suc (suc u)) p f h external = absurd (none-some f h)
+  pub common_same : (name : List ℕ) → common_number plain name ≡ common_number written name
+  common_same name = λ i. position (λ (d : Definition). bytes_eq d.name name && shared_same d i) table
 
-  pub with_runner : HaveNames (unit ∷ runner_of path (unit ∷ []) ∷ [])
-  with_runner = record { once = once; own = free }
+  pub numbers_same : (unit : ℕ) (name : List ℕ) → number_of plain unit name ≡ number_of written unit name
+  numbers_same unit name = ap (λ (o : Option ℕ). or_else (own_number plain unit name) o) (common_same name)
+
+  -- a number has a definition of the name that it was found by
+  pub named : (unit number : ℕ) (name : List ℕ) (d : Definition) → number_of plain unit name ≡ Some number → slice_get table number ≡ Some d → d.name ≡ name
+  named unit number name d e at = own (own_number plain unit name) (placed _ table) e
+    where
+      same : (k : ℕ) (x : Definition) (b : Bool) → slice_get table k ≡ Some x → (bytes_eq x.name name && b) ≡ true → Some k ≡ Some number → d.name ≡ name
+      same k x b is passes e =
+          let here : x ≡ d = same_Some x d (sym is ∙ ap (λ (j : ℕ). slice_get table j) (same_Some k number e) ∙ at) in
+          sym (ap (λ (y : Definition). y.name) here) ∙ (bytes_eq-Decides x.name name).0 (first_true _ _ passes)
+
+      common : (o : Option ℕ) → Placed (λ (x : Definition). bytes_eq x.name name && is_common plain x) table o → o ≡ Some number → d.name ≡ name
+      common _ (Found k x is passes) e = same k x _ is passes e
+      common _ (Nowhere none) e = absurd (none-some number e)
+
+      own : (o : Option ℕ) → Placed (λ (x : Definition). bytes_eq x.name name && (x.unit == unit)) table o → or_else o (common_number plain name) ≡ Some number → d.name ≡ name
+      own _ (Found k x is passes) e = same k x _ is passes e
+      own _ (Nowhere none) e = common (common_number plain name) (placed _ table) e
+
+  module _ (linked : IsLinked all table) where
+    -- a function of external linkage is what its name means
+    pub common_of : (name : List ℕ) (unit place : ℕ) (f : CoreFunction) → function_in all unit place ≡ Some f → is_external f.linkage ≡ true → f.name ≡ name
+        → Common plain table name f unit place
+    common_of name unit place f e external same = at (common_number plain name) (placed _ table) refl
+      where
+        number : ℕ
+        number = (linked.listed unit place f e).0
+
+        stands : slice_get table number ≡ Some (definition_of f unit place)
+        stands = (linked.listed unit place f e).1
+
+        shared : is_common plain (definition_of f unit place) ≡ true
+        shared = ap external_or e ∙ external
+
+        at : (o : Option ℕ) → Placed (λ (d : Definition). bytes_eq d.name name && is_common plain d) table o → common_number plain name ≡ o → Common plain table name f unit place
+        at _ (Found k x is passes) found =
+            let here : k ≡ number = linked.one k number x (definition_of f unit place) is stands ((bytes_eq-Decides x.name name).0 (first_true _ _ passes) ∙ sym same) (second_true _ _ passes) shared in
+            record { number = k; is_number = found; stands = ap (λ (j : ℕ). slice_get table j) here ∙ stands }
+        at _ (Nowhere none) found =
+            let passes : (bytes_eq f.name name && is_common plain (definition_of f unit place)) ≡ true = both _ _ ((bytes_eq-Decides f.name name).1 same) shared in
+            let fails = none number (definition_of f unit place) stands in cc
+
+    -- in the runner each name means what it means in units that define none of its own
+    pub runner_number : (name : List ℕ) → number_of plain (length units) name ≡ common_number plain name
+    runner_number name = own (own_number plain (length units) name) (placed _ table)
+      where
+        common : (k : ℕ) (x : Definition) → slice_get table k ≡ Some x → bytes_eq x.name name ≡ true → is_common plain x ≡ true
+            → (o : Option ℕ) → Placed (λ (d : Definition). bytes_eq d.name name && is_common plain d) table o → Some k ≡ o
+        common k x is name_is shared _ (Found j y at passes) =
+            ap (λ (i : ℕ). Some i) (linked.one k j x y is at ((bytes_eq-Decides x.name name).0 name_is ∙ sym ((bytes_eq-Decides y.name name).0 (first_true _ _ passes))) shared (second_true _ _ passes))
+        common k x is name_is shared _ (Nowhere none) =
+            let passes : (bytes_eq x.name name && is_common plain x) ≡ true = both _ _ name_is shared in
+            let fails = none k x is in cc
+
+        own : (o : Option ℕ) → Placed (λ (d : Definition). bytes_eq d.name name && (d.unit == length units)) table o → or_else o (common_number plain name) ≡ common_number plain name
+        own _ (Found k x is passes) =
+            common k x is (first_true _ _ passes) (shared_last x (eqb-true x.unit (length units) (second_true _ _ passes))) (common_number plain name) (placed _ table)
+        own _ (Nowhere none) = refl
+
+    -- what the number of a function of a unit means
+    pub target_defined : (number unit place : ℕ) (f : CoreFunction) → slice_get table number ≡ Some (definition_of f unit place) → function_in all unit place ≡ Some f
+        → target_of plain number ≡ Some (Defined unit place f)
+    target_defined number unit place f stands is =
+        ap (λ (o : Option Definition). inner_target plain o) stands ∙ ap (λ (o : Option CoreFunction). defined_target plain (definition_of f unit place) o) is

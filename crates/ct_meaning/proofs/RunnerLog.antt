@@ -1,37 +1,31 @@
 -- The log of a test file by its runner.
-use Rattle.std.proofs.Common.{◌≡◌, ℕ, List, [], ◌∷◌, ◌++◌, false, Result, Ok, Err, ap, ◌∙◌}
-use Rattle.std.specs.Prelude.{codes, IfOk}
+use Rattle.std.proofs.Common.{◌≡◌, ◌≢◌, ℕ, List, [], ◌∷◌, Result, Ok, Err, ap, ◌∙◌}
+use Rattle.std.specs.Prelude.{All, IfOk, codes}
 use Rattle.ct_base.specs.declared.memory.OutOfMemory.{OutOfMemory}
 use Rattle.ct_report.specs.declared.logs.RunLog.{RunLog}
 use Rattle.ct_core.specs.declared.units.CoreUnit.{CoreUnit}
+use Rattle.ct_core.specs.declared.units.CoreFunction.{CoreFunction}
 use Rattle.ct_core.specs.declared.units.Definition.{Definition}
 use Rattle.ct_meaning.specs.Program.{plain_world, log_of}
-use Rattle.ct_meaning.specs.Written.{written_world, written_log, defines}
-use Rattle.ct_meaning.specs.Linked.{IsLinked, IsTestProject, runner_of}
-use Rattle.ct_meaning.specs.Table.{HaveNames, table_of}
-use Rattle.ct_meaning.proofs.Tables.{table_in_order}
-use Rattle.ct_meaning.proofs.RunnerLink.{with_runner}
+use Rattle.ct_meaning.specs.Written.{written_world, written_log}
+use Rattle.ct_meaning.specs.Linked.{IsTestProject, AreNamedApart, table_in_order, runner_of}
+use Rattle.ct_meaning.proofs.Runner.{log_same}
+use Rattle.ct_meaning.proofs.RunnerApart.{runner_apart}
+use Rattle.ct_meaning.proofs.TableInOrder.{linked}
 
-pub runner_runs_the_phases : (units : List CoreUnit) (functions : List Definition) (budget : ℕ) (path : List ℕ)
-    → IsTestProject units → IsLinked (units ++ runner_of path units ∷ []) functions
-    → log_of (plain_world (units ++ runner_of path units ∷ []) functions budget) ≡ written_log (written_world units functions budget)
-runner_runs_the_phases = ?
+module _ (unit : CoreUnit) (path : List ℕ) (budget : ℕ) (project : IsTestProject (unit ∷ [])) (apart : AreNamedApart (unit ∷ [])) (no_main : All (λ (f : CoreFunction). f.name ≢ codes "main") unit.functions) where
+  abbrev all : List CoreUnit
+  all = unit ∷ runner_of path (unit ∷ []) ∷ []
 
-pub file_log : (unit : CoreUnit) (path : List ℕ) (budget : ℕ) → IsTestProject (unit ∷ []) → HaveNames (unit ∷ []) → defines (unit ∷ []) (codes "main") ≡ false
-    → log_of (plain_world (unit ∷ runner_of path (unit ∷ []) ∷ []) (table_of (unit ∷ runner_of path (unit ∷ []) ∷ [])) budget)
-      ≡ written_log (written_world (unit ∷ []) (table_of (unit ∷ runner_of path (unit ∷ []) ∷ [])) budget)
-file_log unit path budget project names main =
-    runner_runs_the_phases (unit ∷ []) (table_of (unit ∷ runner_of path (unit ∷ []) ∷ [])) budget path project
-    (table_in_order (unit ∷ runner_of path (unit ∷ []) ∷ []) (with_runner unit path names main))
+  file_log : log_of (plain_world all (table_in_order all) budget) ≡ written_log (written_world (unit ∷ []) (table_in_order all) budget)
+  file_log = log_same (unit ∷ []) (table_in_order all) budget path project (linked all (runner_apart unit path apart no_main))
 
-pub same_log : (unit runner : CoreUnit) (path : List ℕ) (budget : ℕ) (units : List CoreUnit) (functions : List Definition) (r : Result RunLog OutOfMemory)
-    → IsTestProject (unit ∷ []) → HaveNames (unit ∷ []) → defines (unit ∷ []) (codes "main") ≡ false
-    → runner ≡ runner_of path (unit ∷ []) → units ≡ unit ∷ runner ∷ [] → functions ≡ table_of units
-    → IfOk r (λ log. log ≡ log_of (plain_world units functions budget))
-    → IfOk r (λ log. log ≡ written_log (written_world (unit ∷ []) (table_of (unit ∷ runner_of path (unit ∷ []) ∷ [])) budget))
-same_log unit runner path budget units functions (Ok log) project names main made all table e =
-    let them : units ≡ unit ∷ runner_of path (unit ∷ []) ∷ [] = all ∙ ap (λ (r : CoreUnit). unit ∷ r ∷ []) made in
-    e ∙ ap (λ (functions : List Definition). log_of (plain_world units functions budget)) table
-    ∙ ap (λ (units : List CoreUnit). log_of (plain_world units (table_of units) budget)) them
-    ∙ file_log unit path budget project names main
-same_log unit runner path budget units functions (Err e) project names main made all table h = tt
+  pub same_log : (runner : CoreUnit) (units : List CoreUnit) (functions : List Definition) (r : Result RunLog OutOfMemory)
+      → runner ≡ runner_of path (unit ∷ []) → units ≡ unit ∷ runner ∷ [] → functions ≡ table_in_order units
+      → IfOk r (λ log. log ≡ log_of (plain_world units functions budget))
+      → IfOk r (λ log. log ≡ written_log (written_world (unit ∷ []) (table_in_order all) budget))
+  same_log runner units functions (Ok log) made them table e =
+      e ∙ ap (λ (functions : List Definition). log_of (plain_world units functions budget)) table
+      ∙ ap (λ (units : List CoreUnit). log_of (plain_world units (table_in_order units) budget)) (them ∙ ap (λ (r : CoreUnit). unit ∷ r ∷ []) made)
+      ∙ file_log
+  same_log runner units functions (Err e) made them table h = tt

@@ -1,7 +1,6 @@
 -- What the code of a runner and of a table makes.
-use Rattle.std.proofs.Common.{◌≡◌, ℕ, zero, suc, ◌+◌, ◌<◌, List, [], ◌∷◌, ◌++◌, Bool, true, false, cond, Option, Result, Ok, Err, refl, sym, ap, ◌∙◌, arith, length, drop, map, get_or}
-use Rattle.std.specs.Prelude.{filter, IfOk, codes}
-use Rattle.std.specs.List.{enumerate_from}
+use Rattle.std.proofs.Common.{◌≡◌, ℕ, zero, suc, ◌+◌, ◌<◌, List, [], ◌∷◌, ◌++◌, Bool, true, false, cond, Option, Result, Ok, Err, refl, sym, ap, ◌∙◌, arith, length, drop, map, get_or, append_assoc, append_nil}
+use Rattle.std.specs.Prelude.{filter, IfOk, codes, not, if◌then◌else◌}
 use Rattle.ct_base.specs.declared.memory.OutOfMemory.{OutOfMemory}
 use Rattle.ct_ctype.specs.declared.types.StructLayout.{StructLayout}
 use Rattle.ct_ctype.specs.declared.types.FunctionType.{FunctionType}
@@ -10,10 +9,11 @@ use Rattle.ct_core.specs.declared.trees.CoreStatement.{CoreStatement}
 use Rattle.ct_core.specs.declared.values.Space.TheVariants.{Tool}
 use Rattle.ct_core.specs.declared.units.CoreUnit.{CoreUnit}
 use Rattle.ct_core.specs.declared.units.CoreFunction.{CoreFunction}
+use Rattle.ct_core.specs.declared.units.Definition.{Definition}
+use Rattle.ct_core.specs.BuiltIns.{Row}
 use Rattle.ct_meaning.specs.Written.{is_test, defines}
 use Rattle.ct_meaning.specs.Runner.{call_statement, missing, main_function, runner_unit}
-use Rattle.ct_meaning.specs.Linked.{runner_of}
-use Rattle.ct_meaning.specs.Table.{tests_in}
+use Rattle.ct_meaning.specs.Linked.{definition_of, definitions_from, unit_definitions, is_defined, built_in_definitions, tests_in, runner_of}
 
 left_at : {X : Type 0} (xs : List X) (i : ℕ) (x : X) → i < length xs → x ≡ get_or xs i x → drop i xs ≡ x ∷ drop (i + 1) xs
 left_at {X} [] i x h e = absurd (omega arith)
@@ -33,8 +33,47 @@ test_next fs i f h e test = ap tests_in (left_at fs i f h e) ∙ tests_on f (dro
 pub no_test_next : (fs : List CoreFunction) (i : ℕ) (f : CoreFunction) → i < length fs → f ≡ get_or fs i f → is_test f ≡ false → tests_in (drop i fs) ≡ tests_in (drop (i + 1) fs)
 no_test_next fs i f h e test = ap tests_in (left_at fs i f h e) ∙ tests_on f (drop (i + 1) fs) false test
 
-pub number_next : {X : Type 0} (xs : List X) (i : ℕ) (x : X) → i < length xs → x ≡ get_or xs i x → enumerate_from i (drop i xs) ≡ (i, x) ∷ enumerate_from (i + 1) (drop (i + 1) xs)
-number_next {X} xs i x h e = ap (enumerate_from i) (left_at xs i x h e)
+pub definition_next : (unit : ℕ) (fs : List CoreFunction) (i : ℕ) (f : CoreFunction) → i < length fs → f ≡ get_or fs i f
+    → definitions_from unit i (drop i fs) ≡ definition_of f unit i ∷ definitions_from unit (i + 1) (drop (i + 1) fs)
+definition_next unit fs i f h e =
+    let n : suc i ≡ i + 1 = omega arith in
+    ap (definitions_from unit i) (left_at fs i f h e) ∙ ap (λ (k : ℕ). definition_of f unit i ∷ definitions_from unit k (drop (i + 1) fs)) n
+
+pub unit_next : (us : List CoreUnit) (i : ℕ) (u : CoreUnit) → i < length us → u ≡ get_or us i u
+    → unit_definitions i (drop i us) ≡ definitions_from i 0 u.functions ++ unit_definitions (i + 1) (drop (i + 1) us)
+unit_next us i u h e =
+    let n : suc i ≡ i + 1 = omega arith in
+    ap (unit_definitions i) (left_at us i u h e) ∙ ap (λ (k : ℕ). definitions_from i 0 u.functions ++ unit_definitions k (drop (i + 1) us)) n
+
+-- ---- what is built in
+
+abbrev given : List CoreUnit → List ℕ → List Definition
+given units name = if is_defined units name then [] else record { name = name; unit = length units; place = 0 } ∷ []
+
+abbrev given_rows : List CoreUnit → List Row → List Definition
+given_rows units rows = map (λ (row : Row). record { name = row.0; unit = length units; place = 0 }) (filter (λ (row : Row). not (is_defined units row.0)) rows)
+
+given_next : (units : List CoreUnit) (row : Row) (rows : List Row) → given_rows units (row ∷ rows) ≡ given units row.0 ++ given_rows units rows
+given_next units row rows = by (is_defined units row.0)
+  where
+    by : (b : Bool) → map (λ (row : Row). record { name = row.0; unit = length units; place = 0 }) (cond (not b) (row ∷ filter (λ (row : Row). not (is_defined units row.0)) rows) (filter (λ (row : Row). not (is_defined units row.0)) rows))
+        ≡ (if b then [] else record { name = row.0; unit = length units; place = 0 } ∷ []) ++ given_rows units rows
+    by true = refl
+    by false = refl
+
+given_put : (units : List CoreUnit) (a b : List Definition) (name : List ℕ) (row : Row) (rows : List Row) → name ≡ row.0 → b ≡ a ++ given units name
+    → a ++ given_rows units (row ∷ rows) ≡ b ++ given_rows units rows
+given_put units a b name row rows named put =
+    ap (λ (l : List Definition). a ++ l) (given_next units row rows) ∙ sym (append_assoc a (given units row.0) (given_rows units rows))
+    ∙ ap (λ (n : List ℕ). a ++ given units n ++ given_rows units rows) (sym named) ∙ ap (λ (l : List Definition). l ++ given_rows units rows) (sym put)
+
+pub given_all : (units : List CoreUnit) (a b c d e f : List Definition) (m n o p q : List ℕ)
+    → m ≡ codes "ceedling_assert_TEST_ASSERT_EQUAL_INT" → n ≡ codes "ceedling_run_call" → o ≡ codes "ceedling_run_end" → p ≡ codes "ceedling_run_phase" → q ≡ codes "ceedling_run_test"
+    → b ≡ a ++ given units m → c ≡ b ++ given units n → d ≡ c ++ given units o → e ≡ d ++ given units p → f ≡ e ++ given units q
+    → f ≡ a ++ built_in_definitions units
+given_all units a b c d e f m n o p q first second third fourth fifth ab bc cd de ef =
+    sym (append_nil f)
+    ∙ sym (given_put units a b m _ _ first ab ∙ given_put units b c n _ _ second bc ∙ given_put units c d o _ _ third cd ∙ given_put units d e p _ _ fourth de ∙ given_put units e f q _ [] fifth ef)
 
 -- a statement of parts that are equal
 pub same_call : (r : Result CoreStatement OutOfMemory) (kind k : FunctionType) (name n : List ℕ) (arguments a : List CoreExpression) → kind ≡ k → name ≡ n → arguments ≡ a

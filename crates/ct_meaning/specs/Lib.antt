@@ -7,7 +7,6 @@ pub mod Program
 pub mod Written
 pub mod Runner
 pub mod Linked
-pub mod Table
 pub mod Views
 pub mod Laws
 pub mod Calling

@@ -105,8 +105,11 @@ pub record IsTestProject (units : List CoreUnit) : Type 0 where
   -- no test program begins more tests
   pub few : length (filter is_test first.functions) ≤ 1000
 
+-- the tests among these functions: their names and lines
+abbrev pub tests_in : List CoreFunction → List (List ℕ × ℕ)
+tests_in functions = map (λ (f : CoreFunction). (f.name, f.span.line)) (filter is_test functions)
+
 -- the runner of a test file, which is the first unit
 abbrev pub runner_of : List ℕ → List CoreUnit → CoreUnit
 runner_of path units =
-    runner_unit path (map (λ (f : CoreFunction). (f.name, f.span.line)) (filter is_test (functions_of (slice_get units 0))))
-    (defines units (codes "setUp")) (defines units (codes "tearDown"))
+    runner_unit path (tests_in (functions_of (slice_get units 0))) (defines units (codes "setUp")) (defines units (codes "tearDown"))

@@ -1,19 +1,16 @@
 //! The runner of a test file, and the log of the file by it.
 
-ghost use Rattle.std.specs.Prelude.{◌≡◌, ◌≤◌, ◌++◌, ◌∷◌, [], ◌&&◌, suc, pos, codes, map, false, bytes_eq, slice_get, unwrap_or, IfOk, OnOk};
-ghost use Rattle.std.specs.List.{list_any};
+ghost use Rattle.std.specs.Prelude.{◌≡◌, ◌≢◌, ◌≤◌, ◌++◌, ◌∷◌, [], All, suc, pos, codes, map, slice_get, unwrap_or, IfOk, OnOk};
 ghost use Rattle.ct_ctype.specs.declared.kinds.IntKind.TheVariants.{UnsignedInt};
 ghost use Rattle.ct_core.specs.declared.trees.CoreExpression.TheVariants.{Constant, Text as text_of};
-ghost use Rattle.ct_meaning.specs.World.{is_external};
 ghost use Rattle.ct_meaning.specs.Runner as spec;
 ghost use Rattle.ct_meaning.specs.Written as spec_tests;
 ghost use Rattle.ct_meaning.specs.Written.{written_world, written_log};
-ghost use Rattle.ct_meaning.specs.Linked.{IsTestProject, runner_of};
-ghost use Rattle.ct_meaning.specs.Table.{tests_in, table_of, HaveNames};
+ghost use Rattle.ct_meaning.specs.Linked.{AreNamedApart, IsTestProject, runner_of, table_in_order, tests_in};
 
 use crate::program::is_external;
 use crate::run::plain;
-use crate::table::table;
+use crate::table::{defines, table};
 use ct_base::{Bytes, Items, Mem, OutOfMemory, Span, Text};
 use ct_core::{CoreExpression, CoreFunction, CoreStatement, CoreUnit, Linkage, Mark, Space};
 use ct_ctype::{CType, FunctionType, IntKind, Structs};
@@ -33,9 +30,9 @@ const UNMARKED: Mark = Mark {
 pub fn test_log(alloc: Global, unit: CoreUnit, budget: u64) -> Mem<RunLog>
     requires budget { (1 ≤ budget) × (budget ≤ 10000000) }
     requires project { IsTestProject (unit ∷ []) }
-    requires names { HaveNames (unit ∷ []) }
-    requires main { spec_tests.defines (unit ∷ []) (codes "main") ≡ false }
-    ensures { IfOk result (λ log. log ≡ written_log (written_world (unit ∷ []) (table_of (unit ∷ runner_of (unwrap_or (slice_get unit.files 0) []) (unit ∷ []) ∷ [])) budget)) }
+    requires names { AreNamedApart (unit ∷ []) }
+    requires main { All (λ f. f.name ≢ codes "main") unit.functions }
+    ensures { IfOk result (λ log. log ≡ written_log (written_world (unit ∷ []) (table_in_order (unit ∷ runner_of (unwrap_or (slice_get unit.files 0) []) (unit ∷ []) ∷ [])) budget)) }
 {
     let tests = runner(alloc, &unit)?;
     let units = vec![in alloc; unit, tests]?;
@@ -87,15 +84,6 @@ fn push_missing(
         all.push(empty_function(alloc, name)?)?;
     }
     Ok(())
-}
-
-/// Whether one of these functions has a name, and external linkage.
-fn defines(functions: &[CoreFunction], name: &[u8]) -> bool
-    ensures { result ≡ list_any (λ f. bytes_eq f.name name.now && is_external f.linkage) functions.now }
-{
-    functions
-        .iter()
-        .any(|f| f.name.as_slice() == name && is_external(f.linkage))
 }
 
 /// The function `void NAME(void) { }`.

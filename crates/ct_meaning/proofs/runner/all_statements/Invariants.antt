@@ -1,6 +1,6 @@
 use Rattle.std.proofs.Common.{◌≡◌, ◌++◌, drop}
 use Rattle.ct_meaning.specs.Runner.{all_statements}
-use Rattle.ct_meaning.specs.Table.{tests_in}
+use Rattle.ct_meaning.specs.Linked.{tests_in}
 use Rattle.ct_meaning.proofs.runner.all_statements.Given as goal
 
 abbrev pub invariant-loop-f : goal.invariant-loop-f

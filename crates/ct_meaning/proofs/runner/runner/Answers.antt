@@ -2,7 +2,7 @@ use Rattle.std.proofs.Common.{ℕ, List, [], ◌∷◌, map, ap, ◌∙◌}
 use Rattle.ct_core.specs.declared.units.CoreFunction.{CoreFunction}
 use Rattle.ct_meaning.specs.Runner.{missing, main_function}
 use Rattle.ct_meaning.specs.Written.{defines}
-use Rattle.ct_meaning.specs.Table.{tests_in}
+use Rattle.ct_meaning.specs.Linked.{tests_in}
 use Rattle.ct_meaning.proofs.RunnerMade.{one_pushed, put_together, runner_made}
 use Rattle.ct_meaning.proofs.runner.runner.Goals as goal
 

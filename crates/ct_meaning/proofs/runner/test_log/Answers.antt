@@ -1,11 +1,11 @@
 use Rattle.std.proofs.Common.{sym, ◌∙◌, ap}
-use Rattle.ct_meaning.specs.Table.{table_of}
+use Rattle.ct_meaning.specs.Linked.{table_in_order}
 use Rattle.ct_meaning.proofs.RunnerLog.{same_log}
 use Rattle.ct_meaning.proofs.runner.test_log.Goals as goal
 
 pub returns : goal.returns
 returns c =
-    same_log c.args.unit _ _ c.args.budget _ _ _ c.requires.project c.requires.names c.requires.main c.in_ok-tests.ensures
+    same_log c.args.unit _ c.args.budget c.requires.project c.requires.names c.requires.main _ _ _ _ c.in_ok-tests.ensures
     (c.as_slice-2.ensures.value ∙ c.in_ok-units.ensures.items)
-    (c.in_ok-definitions.ensures ∙ ap table_of (c.as_slice.ensures.value ∙ sym c.as_slice-2.ensures.value))
+    (c.in_ok-definitions.ensures ∙ ap table_in_order (c.as_slice.ensures.value ∙ sym c.as_slice-2.ensures.value))
     c.plain.ensures

@@ -1,5 +1,5 @@
 use Rattle.std.proofs.Common.{◌≡◌, ℕ, List, ◌++◌, drop, map}
-use Rattle.ct_meaning.specs.Table.{tests_in}
+use Rattle.ct_meaning.specs.Linked.{tests_in}
 use Rattle.ct_meaning.proofs.runner.test_names.Given as goal
 
 abbrev pub invariant-loop-f : goal.invariant-loop-f
