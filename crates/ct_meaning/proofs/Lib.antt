@@ -9,7 +9,6 @@ pub mod Numbers
 pub mod Parts
 pub mod Positions
 pub mod Related
-pub mod Runner
 pub mod RunnerApart
 pub mod RunnerCalls
 pub mod RunnerKin
@@ -27,6 +26,7 @@ pub mod RunnerTexts
 pub mod RunnerTrees
 pub mod RunnerUnit
 pub mod RunnerValues
+pub mod RunnerWhole
 pub mod Spends
 pub mod Steps
 pub mod Strings

@@ -1,5 +1,5 @@
 -- What the code of a runner and of a table makes.
-use Rattle.std.proofs.Common.{◌≡◌, ℕ, zero, suc, ◌+◌, ◌<◌, List, [], ◌∷◌, ◌++◌, Bool, true, false, cond, Option, Result, Ok, Err, refl, sym, ap, ◌∙◌, arith, length, drop, map, get_or, append_assoc, append_nil}
+use Rattle.std.proofs.Common.{◌≡◌, ℕ, zero, suc, ◌+◌, ◌<◌, List, [], ◌∷◌, ◌++◌, Bool, true, false, cond, Option, Result, Ok, Err, refl, sym, ap, ◌∙◌, arith, length, drop, map, get_or, append_assoc, append-nil}
 use Rattle.std.specs.Prelude.{filter, IfOk, codes, not, if◌then◌else◌}
 use Rattle.ct_base.specs.declared.memory.OutOfMemory.{OutOfMemory}
 use Rattle.ct_ctype.specs.declared.types.StructLayout.{StructLayout}
@@ -10,6 +10,7 @@ use Rattle.ct_core.specs.declared.values.Space.TheVariants.{Tool}
 use Rattle.ct_core.specs.declared.units.CoreUnit.{CoreUnit}
 use Rattle.ct_core.specs.declared.units.CoreFunction.{CoreFunction}
 use Rattle.ct_core.specs.declared.units.Definition.{Definition}
+use Rattle.ct_core.specs.declared.built_ins.BuiltIn.TheVariants.{AssertEqualInt, RunCall, RunEnd, RunPhase, RunTest}
 use Rattle.ct_core.specs.BuiltIns.{Row}
 use Rattle.ct_meaning.specs.Written.{is_test, defines}
 use Rattle.ct_meaning.specs.Runner.{call_statement, missing, main_function, runner_unit}
@@ -67,13 +68,29 @@ given_put units a b name row rows named put =
     ap (λ (l : List Definition). a ++ l) (given_next units row rows) ∙ sym (append_assoc a (given units row.0) (given_rows units rows))
     ∙ ap (λ (n : List ℕ). a ++ given units n ++ given_rows units rows) (sym named) ∙ ap (λ (l : List Definition). l ++ given_rows units rows) (sym put)
 
+abbrev assertion : Row
+assertion = (codes "ceedling_assert_TEST_ASSERT_EQUAL_INT", AssertEqualInt)
+
+abbrev call : Row
+call = (codes "ceedling_run_call", RunCall)
+
+abbrev end : Row
+end = (codes "ceedling_run_end", RunEnd)
+
+abbrev phase : Row
+phase = (codes "ceedling_run_phase", RunPhase)
+
+abbrev test : Row
+test = (codes "ceedling_run_test", RunTest)
+
 pub given_all : (units : List CoreUnit) (a b c d e f : List Definition) (m n o p q : List ℕ)
-    → m ≡ codes "ceedling_assert_TEST_ASSERT_EQUAL_INT" → n ≡ codes "ceedling_run_call" → o ≡ codes "ceedling_run_end" → p ≡ codes "ceedling_run_phase" → q ≡ codes "ceedling_run_test"
+    → m ≡ assertion.0 → n ≡ call.0 → o ≡ end.0 → p ≡ phase.0 → q ≡ test.0
     → b ≡ a ++ given units m → c ≡ b ++ given units n → d ≡ c ++ given units o → e ≡ d ++ given units p → f ≡ e ++ given units q
     → f ≡ a ++ built_in_definitions units
 given_all units a b c d e f m n o p q first second third fourth fifth ab bc cd de ef =
-    sym (append_nil f)
-    ∙ sym (given_put units a b m _ _ first ab ∙ given_put units b c n _ _ second bc ∙ given_put units c d o _ _ third cd ∙ given_put units d e p _ _ fourth de ∙ given_put units e f q _ [] fifth ef)
+    sym (append-nil f)
+    ∙ sym (given_put units a b m assertion (call ∷ end ∷ phase ∷ test ∷ []) first ab ∙ given_put units b c n call (end ∷ phase ∷ test ∷ []) second bc
+    ∙ given_put units c d o end (phase ∷ test ∷ []) third cd ∙ given_put units d e p phase (test ∷ []) fourth de ∙ given_put units e f q test [] fifth ef)
 
 -- a statement of parts that are equal
 pub same_call : (r : Result CoreStatement OutOfMemory) (kind k : FunctionType) (name n : List ℕ) (arguments a : List CoreExpression) → kind ≡ k → name ≡ n → arguments ≡ a

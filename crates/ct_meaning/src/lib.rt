@@ -22,7 +22,5 @@ pub use laws::{
 };
 pub use run::plain;
 pub use runner::test_log;
-pub use runner_law::{
-    a_runner_is_named_apart, a_table_in_order_is_linked, runner_runs_the_phases,
-};
+pub use runner_law::{a_runner_is_named_apart, a_table_in_order_is_linked, runner_runs_the_phases};
 pub use state::{Ending, Place, Position, State, Stop, Where};

@@ -3,6 +3,7 @@
 ghost use Rattle.std.specs.Prelude.{◌≡◌, ◌≢◌, ◌≤◌, ◌++◌, ◌∷◌, [], All, suc, pos, codes, map, slice_get, unwrap_or, IfOk, OnOk};
 ghost use Rattle.ct_ctype.specs.declared.kinds.IntKind.TheVariants.{UnsignedInt};
 ghost use Rattle.ct_core.specs.declared.trees.CoreExpression.TheVariants.{Constant, Text as text_of};
+ghost use Rattle.ct_meaning.specs.Program.{plain_world, log_of};
 ghost use Rattle.ct_meaning.specs.Runner as spec;
 ghost use Rattle.ct_meaning.specs.Written as spec_tests;
 ghost use Rattle.ct_meaning.specs.Written.{written_world, written_log};
@@ -26,13 +27,21 @@ const UNMARKED: Mark = Mark {
     serial: 0,
 };
 
-/// The log of a test file that is one unit, by its runner.
+/// The log of a test file that is one unit, which its runner makes.
 pub fn test_log(alloc: Global, unit: CoreUnit, budget: u64) -> Mem<RunLog>
     requires budget { (1 ≤ budget) × (budget ≤ 10000000) }
     requires project { IsTestProject (unit ∷ []) }
     requires names { AreNamedApart (unit ∷ []) }
     requires main { All (λ f. f.name ≢ codes "main") unit.functions }
     ensures { IfOk result (λ log. log ≡ written_log (written_world (unit ∷ []) (table_in_order (unit ∷ runner_of (unwrap_or (slice_get unit.files 0) []) (unit ∷ []) ∷ [])) budget)) }
+{
+    log_by_runner(alloc, unit, budget)
+}
+
+/// The log of a test file that is one unit, by the meaning of C alone: its runner is run.
+pub fn log_by_runner(alloc: Global, unit: CoreUnit, budget: u64) -> Mem<RunLog>
+    requires budget { (1 ≤ budget) × (budget ≤ 10000000) }
+    ensures { IfOk result (λ log. log ≡ log_of (plain_world (unit ∷ runner_of (unwrap_or (slice_get unit.files 0) []) (unit ∷ []) ∷ []) (table_in_order (unit ∷ runner_of (unwrap_or (slice_get unit.files 0) []) (unit ∷ []) ∷ [])) budget)) }
 {
     let tests = runner(alloc, &unit)?;
     let units = vec![in alloc; unit, tests]?;

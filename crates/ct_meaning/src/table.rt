@@ -26,12 +26,7 @@ pub fn table(alloc: Global, units: &[CoreUnit]) -> Mem<LinkTable>
 
 /// Adds the definitions of a unit.
 #[tactic(auto, using(crate::proofs::RunnerMade::definition_next))]
-fn push_unit(
-    alloc: Global,
-    all: &mut Items<Definition>,
-    number: usize,
-    unit: &CoreUnit,
-) -> Mem<()>
+fn push_unit(alloc: Global, all: &mut Items<Definition>, number: usize, unit: &CoreUnit) -> Mem<()>
     ensures { OnOk result (all.new ≡ all.old ++ spec.definitions_from number 0 unit.now.functions) }
 {
     for (place, f) in unit.functions.as_slice().iter().enumerate() {

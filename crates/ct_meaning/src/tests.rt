@@ -1,10 +1,11 @@
 //! Small programs, with the logs that the rules give by hand.
 
-use crate::plain;
+ghost use Rattle.std.specs.Prelude.{◌≤◌};
+
+use crate::runner::log_by_runner;
 use ct_base::{BinaryOp, Bytes, Items, Mem, Span, Text};
 use ct_core::{
-    CoreExpression, CoreFunction, CoreStatement, CoreUnit, Definition, LinkTable, Linkage, Mark,
-    Scalar, Space, Variable,
+    CoreExpression, CoreFunction, CoreStatement, CoreUnit, Linkage, Mark, Scalar, Space, Variable,
 };
 use ct_ctype::{CType, FunctionType, IntKind, Structs};
 use ct_report::lines;
@@ -113,118 +114,10 @@ fn function(
     })
 }
 
-fn run_of(alloc: Global, name: &[u8], arguments: Items<CoreExpression>) -> Mem<CoreStatement> {
-    Ok(CoreStatement::Run(mark(0), call_of(alloc, name, arguments)?))
-}
-
-fn run_call(alloc: Global, name: &[u8]) -> Mem<CoreStatement> {
-    let mut arguments = Items::new(alloc);
-    arguments.push(CoreExpression::Function(bytes(alloc, name)?))?;
-    run_of(alloc, b"ceedling_run_call".as_slice(), arguments)
-}
-
-/// The runner of one test, with an empty `setUp` and `tearDown`.
-fn runner(alloc: Global, name: &[u8], line: u32) -> Mem<CoreUnit> {
-    let mut begin = Items::new(alloc);
-    begin.push(CoreExpression::Text(0))?;
-    begin.push(CoreExpression::Constant(IntKind::UnsignedInt, i128::from(line)))?;
-    let mut body = Items::new(alloc);
-    body.push(run_of(alloc, b"ceedling_run_test".as_slice(), begin)?)?;
-    body.push(run_call(alloc, b"setUp".as_slice())?)?;
-    body.push(run_call(alloc, name)?)?;
-    body.push(run_of(alloc, b"ceedling_run_phase".as_slice(), Items::new(alloc))?)?;
-    body.push(run_call(alloc, b"tearDown".as_slice())?)?;
-    body.push(run_of(alloc, b"ceedling_run_end".as_slice(), Items::new(alloc))?)?;
-    body.push(CoreStatement::Return(mark(0), Some(number(0))))?;
-    let empty = CoreStatement::Block(mark(0), Items::new(alloc), Items::new(alloc));
-    let empty_too = CoreStatement::Block(mark(0), Items::new(alloc), Items::new(alloc));
-    let mut functions = Items::new(alloc);
-    functions.push(function(
-        alloc,
-        b"setUp".as_slice(),
-        Linkage::External,
-        0,
-        0,
-        0,
-        empty,
-    )?)?;
-    functions.push(function(
-        alloc,
-        b"tearDown".as_slice(),
-        Linkage::External,
-        0,
-        0,
-        0,
-        empty_too,
-    )?)?;
-    functions.push(function(
-        alloc,
-        b"main".as_slice(),
-        Linkage::External,
-        0,
-        0,
-        0,
-        CoreStatement::Block(mark(0), Items::new(alloc), body),
-    )?)?;
-    let mut texts = Items::new(alloc);
-    texts.push(bytes(alloc, name)?)?;
-    let mut files = Items::new(alloc);
-    files.push(Text::copy_of(alloc, "runner.c")?)?;
-    Ok(CoreUnit {
-        space: Space::Tool,
-        files,
-        functions,
-        texts,
-        structs: Structs::new(alloc),
-    })
-}
-
-fn define(
-    alloc: Global,
-    table: &mut Items<Definition>,
-    name: &[u8],
-    unit: u32,
-    place: u32,
-) -> Mem<()> {
-    let name = bytes(alloc, name)?;
-    table.push(Definition { name, unit, place })?;
-    Ok(())
-}
-
-/// The lines of the report on a test file of these functions, of which the last is the test.
-fn report(
-    alloc: Global,
-    path: &str,
-    name: &[u8],
-    line: u32,
-    functions: Items<CoreFunction>,
-    budget: u64,
-) -> Mem<Vec<u8>> {
-    let mut table = Items::new(alloc);
-    for (place, f) in functions.as_slice().iter().enumerate() {
-        define(alloc, &mut table, f.name.as_slice(), 0, place as u32)?;
-    }
-    for (place, name) in [
-        b"setUp".as_slice(),
-        b"tearDown".as_slice(),
-        b"main".as_slice(),
-    ]
-    .into_iter()
-    .enumerate()
-    {
-        define(alloc, &mut table, name, 1, place as u32)?;
-    }
-    define(
-        alloc,
-        &mut table,
-        b"ceedling_assert_TEST_ASSERT_EQUAL_INT".as_slice(),
-        2,
-        0,
-    )?;
-    define(alloc, &mut table, b"ceedling_run_call".as_slice(), 2, 0)?;
-    define(alloc, &mut table, b"ceedling_run_end".as_slice(), 2, 0)?;
-    define(alloc, &mut table, b"ceedling_run_phase".as_slice(), 2, 0)?;
-    define(alloc, &mut table, b"ceedling_run_test".as_slice(), 2, 0)?;
+/// The lines of the report on a test file of these functions.
+fn report(alloc: Global, path: &str, functions: Items<CoreFunction>, budget: u64) -> Mem<Vec<u8>>
+    requires { (1 ≤ budget) × (budget ≤ 10000000) }
+{
     let mut files = Items::new(alloc);
     files.push(Text::copy_of(alloc, path)?)?;
     let unit = CoreUnit {
@@ -234,13 +127,7 @@ fn report(
         texts: Items::new(alloc),
         structs: Structs::new(alloc),
     };
-    let units = vec![in alloc; unit, runner(alloc, name, line)?]?;
-    let log = plain(
-        alloc,
-        units.as_slice(),
-        &LinkTable { functions: table },
-        budget,
-    )?;
+    let log = log_by_runner(alloc, unit, budget)?;
     let mut text = Vec::new(alloc);
     lines(alloc, &log, &mut text)?;
     Ok(text)
@@ -289,14 +176,7 @@ fn steps_of_a_loop(rt: HostRuntime) -> Result<(), Fail> {
             "test/test_loop.c:2:test_l:FAIL: Fault StepBudget at test/test_loop.c:3\n",
         ),
     ] {
-        let text = report(
-            alloc,
-            "test/test_loop.c",
-            b"test_l".as_slice(),
-            2,
-            looping(alloc)?,
-            budget,
-        )?;
+        let text = report(alloc, "test/test_loop.c", looping(alloc)?, budget)?;
         assert_eq!(rt; text.as_slice(), wanted.as_bytes());
     }
     Ok(())
@@ -334,14 +214,7 @@ fn nested_calls(rt: HostRuntime) -> Result<(), Fail> {
         0,
         CoreStatement::Block(mark(3), Items::new(alloc), test),
     )?)?;
-    let text = report(
-        alloc,
-        "test/test_d.c",
-        b"test_d".as_slice(),
-        3,
-        functions,
-        1_000_000,
-    )?;
+    let text = report(alloc, "test/test_d.c", functions, 1_000_000)?;
     assert_eq!(rt;
         text.as_slice(),
         b"test/test_d.c:3:test_d:FAIL: Fault CallDepth at test/test_d.c:2\n".as_slice()
@@ -377,14 +250,62 @@ fn assertions(rt: HostRuntime) -> Result<(), Fail> {
             0,
             CoreStatement::Block(mark(2), Items::new(alloc), test),
         )?)?;
-        let text = report(
-            alloc,
-            "test/test_o.c",
-            b"test_o".as_slice(),
-            2,
-            functions,
-            1_000_000,
-        )?;
+        let text = report(alloc, "test/test_o.c", functions, 1_000_000)?;
+        assert_eq!(rt; text.as_slice(), wanted.as_bytes());
+    }
+    Ok(())
+}
+
+/// A function of external linkage with one assertion.
+fn asserting(alloc: Global, name: &[u8], line: u32, values: (i128, i128)) -> Mem<CoreFunction> {
+    let mut all = Items::new(alloc);
+    all.push(assert_equal(alloc, line, number(values.0), number(values.1))?)?;
+    let body = CoreStatement::Block(mark(line), Items::new(alloc), all);
+    function(alloc, name, Linkage::External, line, 0, 0, body)
+}
+
+// void setUp(void) { TEST_ASSERT_EQUAL_INT(A, B); }
+// void test_s(void) { TEST_ASSERT_EQUAL_INT(C, D); }
+// void tearDown(void) { TEST_ASSERT_EQUAL_INT(E, F); }
+#[test]
+fn phases(rt: HostRuntime) -> Result<(), Fail> {
+    let alloc = rt.alloc();
+    for (set_up, test, tear_down, wanted) in [
+        (None, (1, 1), None, "test/test_s.c:2:test_s:PASS\n"),
+        (
+            Some((1, 1)),
+            (1, 1),
+            Some((1, 1)),
+            "test/test_s.c:2:test_s:PASS\n",
+        ),
+        (
+            Some((1, 2)),
+            (3, 4),
+            None,
+            "test/test_s.c:1:test_s:FAIL: Expected 1 Was 2\n",
+        ),
+        (
+            Some((1, 1)),
+            (3, 4),
+            Some((5, 6)),
+            "test/test_s.c:2:test_s:FAIL: Expected 3 Was 4\n",
+        ),
+        (
+            None,
+            (1, 1),
+            Some((5, 6)),
+            "test/test_s.c:3:test_s:FAIL: Expected 5 Was 6\n",
+        ),
+    ] {
+        let mut functions = Items::new(alloc);
+        if let Some(values) = set_up {
+            functions.push(asserting(alloc, b"setUp".as_slice(), 1, values)?)?;
+        }
+        functions.push(asserting(alloc, b"test_s".as_slice(), 2, test)?)?;
+        if let Some(values) = tear_down {
+            functions.push(asserting(alloc, b"tearDown".as_slice(), 3, values)?)?;
+        }
+        let text = report(alloc, "test/test_s.c", functions, 1_000_000)?;
         assert_eq!(rt; text.as_slice(), wanted.as_bytes());
     }
     Ok(())

@@ -1,11 +1,5 @@
-use Rattle.std.proofs.Common.{sym, ◌∙◌, ap}
-use Rattle.ct_meaning.specs.Linked.{table_in_order}
-use Rattle.ct_meaning.proofs.RunnerLog.{same_log}
+use Rattle.ct_meaning.proofs.RunnerLog.{written_so}
 use Rattle.ct_meaning.proofs.runner.test_log.Goals as goal
 
 pub returns : goal.returns
-returns c =
-    same_log c.args.unit _ c.args.budget c.requires.project c.requires.names c.requires.main _ _ _ _ c.in_ok-tests.ensures
-    (c.as_slice-2.ensures.value ∙ c.in_ok-units.ensures.items)
-    (c.in_ok-definitions.ensures ∙ ap table_in_order (c.as_slice.ensures.value ∙ sym c.as_slice-2.ensures.value))
-    c.plain.ensures
+returns c = written_so c.args.unit _ c.args.budget c.requires.project c.requires.names c.requires.main _ c.log_by_runner.ensures
