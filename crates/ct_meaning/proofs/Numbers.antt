@@ -18,7 +18,9 @@ use Rattle.ct_meaning.specs.World.{World, Where, Target, Row, Empty, Outside, De
 use Rattle.ct_meaning.specs.Rules.{stop, failed, failed_test, given, used, truth_in, apply_binary, apply_conversion, variable, literal, designator, load, store, initialise, begin_objects, end_objects, check_level, level_limit, take_step, begun, argument, run_call, in_test, caught}
 use Rattle.ct_meaning.specs.Meaning.{Calls, enter, call_target, call_value, procedure, handed_call, built_in, apply_call, scalar_of_variable, initialise_parameter, row_body, body_of, calls}
 use Rattle.ct_meaning.specs.Program.{left_in}
-use Rattle.ct_meaning.proofs.Related.{Agree, Lower, Keeps, Always, Equal, Each, Entry, Endings, SameCall, SameWhere, Kin, Alike, Shared, Other, done, bind, weaker, calls_keep}
+use Rattle.ct_meaning.specs.declared.state.Place.{Place}
+use Rattle.ct_meaning.proofs.AllNames.{any_name, any_statement}
+use Rattle.ct_meaning.proofs.Related.{PlaceIn, Agree, Lower, Keeps, Always, Equal, Each, Entry, Endings, SameCall, SameWhere, Kin, Alike, Shared, Other, done, bind, weaker, calls_keep}
 use Rattle.ct_meaning.proofs.Spends.{Spends, given_spends, variable_spends, literal_spends, designator_spends, load_spends, store_spends, initialise_spends, parameter_spends, conversion_spends, binary_spends, begin_spends, assert_spends, run_test_spends, run_end_spends, run_phase_spends, stop_spends}
 
 -- equal states, in which less than m is left
@@ -42,7 +44,7 @@ self budget n p sp = record { at = λ m le s t r. self_at budget m p s t sp r.sa
 same_pointer : (p q : Pointer) → Object p ≡ Object q → p ≡ q
 same_pointer p q e = cc
 
-same_frame : (f g : List (ℕ × Pointer)) → Each (Entry Equal) f g → f ≡ g
+pub same_frame : (f g : List (ℕ × Pointer)) → Each (Entry Equal) f g → f ≡ g
 same_frame [] [] h = refl
 same_frame (a ∷ f) (b ∷ g) h =
     let e : a.0 ≡ b.0 = h.0.0 in let d : a.1 ≡ b.1 = same_pointer a.1 b.1 h.0.1 in
@@ -50,7 +52,7 @@ same_frame (a ∷ f) (b ∷ g) h =
 same_frame [] (b ∷ g) h = absurd h
 same_frame (a ∷ f) [] h = absurd h
 
-same_values : (xs ys : List Value) → Each Equal xs ys → xs ≡ ys
+pub same_values : (xs ys : List Value) → Each Equal xs ys → xs ≡ ys
 same_values [] [] h = refl
 same_values (x ∷ xs) (y ∷ ys) h = ap (λ (v : Value). v ∷ xs) h.0 ∙ ap (λ (vs : List Value). y ∷ vs) (same_values xs ys h.1)
 same_values [] (y ∷ ys) h = absurd h
@@ -84,7 +86,7 @@ flow_alike a b e = let P : Ending → Type 0 = λ x. Endings Equal a x in subst 
 abbrev pub Any : ℕ → Type 0
 Any unit = Unit {0}
 
-same_where : (h k : Where) → SameWhere Any Equal h k → h ≡ k
+pub same_where : (h k : Where) → SameWhere Any Any Equal h k → h ≡ k
 same_where h k same =
     ap (λ l. record h { level = l }) same.call.level
     ∙ ap (λ u. record h { level = k.level; unit = u }) same.unit
@@ -111,32 +113,32 @@ module _ (w : World) where
   -- ---- the rules
 
   -- one rule in two places that are the same
-  placed : {A : Type 0} (n : ℕ) (h k : Where) → SameWhere Any Equal h k → (p : Where → Does A) → ((x : Where) → Spends w.budget (p x)) → Keeps Same Equal n (p h) (p k)
+  placed : {A : Type 0} (n : ℕ) (h k : Where) → SameWhere Any Any Equal h k → (p : Where → Does A) → ((x : Where) → Spends w.budget (p x)) → Keeps Same Equal n (p h) (p k)
   placed n h k same p sp =
       let P : Where → Type 0 = λ x. Keeps Same Equal n (p h) (p x) in
       subst P (same_where h k same) (self w.budget n (p h) (sp h))
 
   -- and with two equal values
-  valued : {A B : Type 0} (n : ℕ) (h k : Where) → SameWhere Any Equal h k → (x y : B) → x ≡ y → (p : Where → B → Does A) → ((i : Where) (b : B) → Spends w.budget (p i b)) → Keeps Same Equal n (p h x) (p k y)
+  valued : {A B : Type 0} (n : ℕ) (h k : Where) → SameWhere Any Any Equal h k → (x y : B) → x ≡ y → (p : Where → B → Does A) → ((i : Where) (b : B) → Spends w.budget (p i b)) → Keeps Same Equal n (p h x) (p k y)
   valued n h k same x y e p sp =
       let P : _ → Type 0 = λ b. Keeps Same Equal n (p h x) (p k b) in
       subst P e (placed n h k same (λ i. p i x) (λ i. sp i x))
 
-  same_failed : (h k : Where) → SameCall h k → (fault : FaultKind) (s : State) → failed w h fault s ≡ failed w k fault s
+  same_failed : (h k : Where) → SameCall Any h k → (fault : FaultKind) (s : State) → failed w h fault s ≡ failed w k fault s
   unfolding failed
   same_failed h k same fault s = ap (λ p. record s { test = option_map (failed_test w p fault) s.test }) same.place
 
   failed_below : (m : ℕ) (h : Where) (fault : FaultKind) (s : State) → left_in w.budget s < m → left_in w.budget (failed w h fault s) < m
   failed_below m h fault s below = let less = (stop_spends {A = Unit {0}} w.budget w h fault).at s in omega arith
 
-  both_failed : (h k : Where) → SameCall h k → (fault : FaultKind) (m : ℕ) (s t : State) → Same m s t → Same m (failed w h fault s) (failed w k fault t)
+  both_failed : (h k : Where) → SameCall Any h k → (fault : FaultKind) (m : ℕ) (s t : State) → Same m s t → Same m (failed w h fault s) (failed w k fault t)
   both_failed h k same fault m s t r =
       record { same = same_failed h k same fault s ∙ ap (λ x. failed w k fault x) r.same; below = failed_below m h fault s r.below }
 
   stepped : Where → State → Bool → Outcome (Unit {0})
   stepped h s b = if b then (Some tt, record s { steps = s.steps - 1 }) else stop w h StepBudget s
 
-  step_taken : (b : Bool) (h k : Where) → SameCall h k → (m : ℕ) (s t : State) → nat_lt 0 s.steps ≡ b → s ≡ t → left_in w.budget s < suc m
+  step_taken : (b : Bool) (h k : Where) → SameCall Any h k → (m : ℕ) (s t : State) → nat_lt 0 s.steps ≡ b → s ≡ t → left_in w.budget s < suc m
       → Lower (Same m) (Same (suc m)) (stepped h s b) (stepped k t b)
   unfolding stepped
   step_taken true h k same m s t is e below =
@@ -144,7 +146,7 @@ module _ (w : World) where
       record { same = ap (λ (x : State). record x { steps = x.steps - 1 }) e; below = omega arith }
   step_taken false h k same m s t is e below = both_failed h k same StepBudget (suc m) s t (record { same = e; below = below })
 
-  step_keeps : (h k : Where) → SameCall h k → (m : ℕ) (s t : State) → Same (suc m) s t → Lower (Same m) (Same (suc m)) (take_step w h s) (take_step w k t)
+  step_keeps : (h k : Where) → SameCall Any h k → (m : ℕ) (s t : State) → Same (suc m) s t → Lower (Same m) (Same (suc m)) (take_step w h s) (take_step w k t)
   unfolding take_step stepped
   step_keeps h k same m s t r =
       let P : Bool → Type 0 = λ b. Lower (Same m) (Same (suc m)) (stepped h s (nat_lt 0 s.steps)) (stepped k t b) in
@@ -153,12 +155,12 @@ module _ (w : World) where
   checked : Where → Bool → Does (Unit {0})
   checked h b = if b then pure tt else stop w h CallDepth
 
-  checked_keeps : (b : Bool) (m : ℕ) (h k : Where) → SameCall h k → (s t : State) → Same m s t → Agree Always (Same m) (checked h b s) (checked k b t)
+  checked_keeps : (b : Bool) (m : ℕ) (h k : Where) → SameCall Any h k → (s t : State) → Same m s t → Agree Always (Same m) (checked h b s) (checked k b t)
   unfolding checked
   checked_keeps true m h k same s t r = (tt, r)
   checked_keeps false m h k same s t r = both_failed h k same CallDepth m s t r
 
-  level_keeps : (h k : Where) → SameCall h k → (n : ℕ) → Keeps Same Always n (check_level w h) (check_level w k)
+  level_keeps : (h k : Where) → SameCall Any h k → (n : ℕ) → Keeps Same Always n (check_level w h) (check_level w k)
   unfolding check_level checked
   level_keeps h k same n = record {
     at = λ m le s t r.
@@ -233,22 +235,29 @@ module _ (w : World) where
   unfolding apply_call
   apply_keeps h n f g keep x xs = value_keeps h n f g keep _ _ (built_in_keeps h n f g keep) x xs
 
-  call_keeps : (h k : Where) → SameWhere Any Equal h k → (n : ℕ) (f g : Calls)
-      → ((number : ℕ) (xs ys : List Value) → Each Equal xs ys → Keeps Same Equal n (enter w h f number xs) (enter w k g number ys))
+  call_keeps : (h k : Where) → SameWhere Any Any Equal h k → (n : ℕ) (f g : Calls)
+      → ((number : ℕ) (xs ys : List Value) → Equal (Function number) (Function number) → Each Equal xs ys → Keeps Same Equal n (enter w h f number xs) (enter w k g number ys))
       → (x y : Value) (xs ys : List Value) → Equal x y → Each Equal xs ys → Keeps Same Equal n (apply_call w h f x xs) (apply_call w k g y ys)
   call_keeps h k same n f g keep x y xs ys e d =
-      let P : Where → Type 0 = λ i. ((number : ℕ) (us vs : List Value) → Each Equal us vs → Keeps Same Equal n (enter w h f number us) (enter w i g number vs))
+      let P : Where → Type 0 = λ i. ((number : ℕ) (us vs : List Value) → Equal (Function number) (Function number) → Each Equal us vs → Keeps Same Equal n (enter w h f number us) (enter w i g number vs))
       → Keeps Same Equal n (apply_call w h f x xs) (apply_call w i g y ys) in
       let Q : Value → Type 0 = λ z. Keeps Same Equal n (apply_call w h f x xs) (apply_call w h g z ys) in
       let S : List Value → Type 0 = λ zs. Keeps Same Equal n (apply_call w h f x xs) (apply_call w h g x zs) in
-      subst P (same_where h k same) (λ here. subst Q e (subst S (same_values xs ys d) (apply_keeps h n f g (λ number zs. here number zs zs (each_self zs)) x xs))) keep
+      subst P (same_where h k same) (λ here. subst Q e (subst S (same_values xs ys d) (apply_keeps h n f g (λ number zs. here number zs zs refl (each_self zs)) x xs))) keep
 
-  where_self : (h : Where) → SameWhere Any Equal h h
-  where_self h = record { call = record { level = refl; place = refl }; unit = refl; within = tt; function = refl; frame = frame_self h.frame }
+  known_place : (p : Option Place) → PlaceIn Any p
+  known_place (Some p) = tt
+  known_place None = tt
 
-  begun_same : (h k : Where) → SameWhere Any Equal h k → (mark : Mark) → SameWhere Any Equal (begun w h mark) (begun w k mark)
+  call_self : (h : Where) → SameCall Any h h
+  call_self h = record { level = refl; place = refl; known = known_place h.place }
+
+  where_self : (h : Where) → SameWhere Any Any Equal h h
+  where_self h = record { call = call_self h; deep = tt; unit = refl; within = tt; function = refl; frame = frame_self h.frame }
+
+  begun_same : (h k : Where) → SameWhere Any Any Equal h k → (mark : Mark) → SameWhere Any Any Equal (begun w h mark) (begun w k mark)
   begun_same h k same mark =
-      let P : Where → Type 0 = λ i. SameWhere Any Equal (begun w h mark) (begun w i mark) in subst P (same_where h k same) (where_self (begun w h mark))
+      let P : Where → Type 0 = λ i. SameWhere Any Any Equal (begun w h mark) (begun w i mark) in subst P (same_where h k same) (where_self (begun w h mark))
 
   ended_same : (n : ℕ) (f g : List (ℕ × Pointer)) → Each (Entry Equal) f g → (m : ℕ) (s t : State) → Same m s t → Same m (end_objects n f s) (end_objects n g t)
   unfolding end_objects
@@ -256,8 +265,9 @@ module _ (w : World) where
       record { same = ap (λ x. end_objects n x s) (same_frame f g e) ∙ ap (λ x. end_objects n g x) r.same; below = r.below }
 
   -- the same rules in the same world keep equal states equal
-  pub equal_kin : Kin w w Any Equal Same
+  pub equal_kin : Kin w w Any Any any_name Equal Same
   equal_kin = record {
+    inside = λ level. tt;
     some = λ s t r. absurd (omega (arith, r.below));
     more = λ m s t r. record { same = r.same; below = omega (arith, r.below) };
     step = step_keeps;
@@ -270,7 +280,7 @@ module _ (w : World) where
     truth = λ h k same n x y e. valued n h k same x y e (λ i b. given w i (truth_in b)) (λ i b. given_spends w.budget w i (truth_in b));
     variable = λ h k same n place. placed n h k same (λ i. variable w i place) (λ i. variable_spends w.budget w i place);
     literal = λ h k same n text. placed n h k same (λ i. literal w i text) (λ i. literal_spends w.budget w i text);
-    designator = λ h k same n name. placed n h k same (λ i. designator w i name) (λ i. designator_spends w.budget w i name);
+    designator = λ h k same n name fine. placed n h k same (λ i. designator w i name) (λ i. designator_spends w.budget w i name);
     load = λ h k same n t a b e. valued n h k same a b e (λ i x. load w i t x) (λ i x. load_spends w.budget w i t x);
     store = λ h k same n t a b x y e d.
         let P : Value → Type 0 = λ z. Keeps Same Equal n (store w h t a x) (store w k t z y) in
@@ -291,23 +301,27 @@ module _ (w : World) where
     call = call_keeps;
   }
 
-  row_keeps : (row : Row) (n : ℕ) → Keeps Same (Endings Equal) n (row_body row) (row_body row)
-  row_keeps Empty n = done Same (Endings Equal) n Onward Onward tt
+  row_keeps : (row : Row) (n : ℕ) (h k : Where) → SameCall Any h k → (xs ys : List Value) → Each Equal xs ys
+      → Keeps Same (Endings Equal) n (row_body w h row xs) (row_body w k row ys)
+  row_keeps Empty n h k same [] [] e = done Same (Endings Equal) n Onward Onward tt
+  row_keeps Empty n h k same (x ∷ xs) (y ∷ ys) e = record { at = λ m le s t r. both_failed h k same BadCall m s t r }
+  row_keeps Empty n h k same [] (y ∷ ys) e = absurd e
+  row_keeps Empty n h k same (x ∷ xs) [] e = absurd e
 
   -- each function is the same in the same world
-  alike_at : (number : ℕ) (t : Option Target) → target_of w number ≡ t → Alike w w Any Equal Same equal_kin number
-  alike_at number (Some (Defined unit place function)) e = Shared unit place function tt e e
-  alike_at number (Some (Outside row)) e = Other (λ n i j le le' f g enters xs ys d h k same.
-      let P : Option Target → Type 0 = λ t. Keeps Same (Endings Equal) n (body_of w i f t xs h) (body_of w j g t ys k) in subst P (sym e) (row_keeps row n))
-  alike_at number (Some (Given b)) e = Other (λ n i j le le' f g enters xs ys d h k same.
+  alike_at : (number : ℕ) (t : Option Target) → target_of w number ≡ t → Alike w w Any Any any_name Equal Same equal_kin number
+  alike_at number (Some (Defined unit place function)) e = Shared unit place function tt (any_statement function.body) e e
+  alike_at number (Some (Outside row)) e = Other (λ n i j le le' f g enters xs ys d h k same deep.
+      let P : Option Target → Type 0 = λ t. Keeps Same (Endings Equal) n (body_of w i f t xs h) (body_of w j g t ys k) in subst P (sym e) (row_keeps row n h k same xs ys d))
+  alike_at number (Some (Given b)) e = Other (λ n i j le le' f g enters xs ys d h k same deep.
       let P : Option Target → Type 0 = λ t. Keeps Same (Endings Equal) n (body_of w i f t xs h) (body_of w j g t ys k) in subst P (sym e) (done Same (Endings Equal) n Onward Onward tt))
-  alike_at number None e = Other (λ n i j le le' f g enters xs ys d h k same.
+  alike_at number None e = Other (λ n i j le le' f g enters xs ys d h k same deep.
       let P : Option Target → Type 0 = λ t. Keeps Same (Endings Equal) n (body_of w i f t xs h) (body_of w j g t ys k) in subst P (sym e) (done Same (Endings Equal) n Onward Onward tt))
 
   both_agree : (i j number : ℕ) (values : List Value) (h : Where) (s : State) → left_in w.budget s + 1 < i → left_in w.budget s + 1 < j
       → Agree (Endings Equal) (SameState w.budget (left_in w.budget s + 1)) (calls w i number values h s) (calls w j number values h s)
   both_agree i j number values h s li lj =
-      (calls_keep w w Any Equal Same equal_kin (λ k. alike_at k (target_of w k) refl) i j (left_in w.budget s + 1) li lj h h (record { level = refl; place = refl }) number values values (each_self values)).at
+      (calls_keep w w Any Any any_name Equal Same equal_kin (λ k _. alike_at k (target_of w k) refl) i j (left_in w.budget s + 1) li lj h h (call_self h) tt number values values refl (each_self values)).at
       (left_in w.budget s + 1) (omega arith) s s (record { same = refl; below = omega arith })
 
 -- Any two numbers above what is left give the same.

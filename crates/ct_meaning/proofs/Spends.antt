@@ -36,7 +36,7 @@ bind budget p f h k = record { at = λ s. then_spends budget (p s) f (left_in bu
 pub pure_spends : {A : Type 0} (budget : ℕ) (a : A) → Spends budget (pure a)
 pure_spends budget a = record { at = λ s. omega arith }
 
-same_left : (f : TestState → TestState) (t : Option TestState) → left_in_test (option_map f t) ≡ left_in_test t
+pub same_left : (f : TestState → TestState) (t : Option TestState) → left_in_test (option_map f t) ≡ left_in_test t
 same_left f None = refl
 same_left f (Some t) = refl
 
@@ -136,7 +136,7 @@ second_true true b e = e
 second_true false b e = cc
 
 module _ (w : World) (h : Where) where
-  began : (name : List ℕ) (line : ℕ) (s : State) → can_begin w h s ≡ true → left_in w.budget (with_test w name line s) ≤ left_in w.budget s
+  pub began : (name : List ℕ) (line : ℕ) (s : State) → can_begin w h s ≡ true → left_in w.budget (with_test w name line s) ≤ left_in w.budget s
   began name line s e =
       let none : is_none s.test ≡ true = second_true _ _ (first_true _ _ e) in
       let few : s.begun < 1000 = ltb-true s.begun 1000 (second_true _ _ e) in
@@ -158,7 +158,7 @@ module _ (w : World) (h : Where) where
   unfolding run_test
   run_test_spends values = record { at = λ s. run_test_at (can_begin w h s) s (test_check values s.memory) refl }
 
-  end_at : (b : Bool) (s : State) → in_test h s ≡ b → left_in w.budget (if b then without_test s else s) ≤ left_in w.budget s
+  pub end_at : (b : Bool) (s : State) → in_test h s ≡ b → left_in w.budget (if b then without_test s else s) ≤ left_in w.budget s
   end_at false s e = omega arith
   end_at true s e = let open_test = some_left s.test (second_true _ _ e) in omega (arith, open_test)
 

@@ -129,8 +129,10 @@ abbrev pub otherwise : Where → Option Executes → Does Ending
 otherwise h (Some p) = p h
 otherwise h None = pure Onward
 
--- A declaration without initialiser is to leave nothing in its object (6.7.9p10). Nothing is there: without `goto` it is
--- reached once at most in the life of the object, and its name is not in scope before (6.2.1p7).
+-- A declaration without initialiser is to leave nothing in its object, each time that it is reached (6.2.4p6). It need not
+-- store where nothing is there yet: where it stands itself among the statements of the block that has the variable, as the
+-- only one of that variable, and each expression that names the variable stands behind it. Such are the trees of C without
+-- `goto` (6.2.1p7): there it is reached once at most in the life of the object.
 abbrev pub declare : World → Where → ℕ → Scalar → Option Evaluates → Does Ending
 declare w h place t (Some e) = e h >>= (λ v. initialise w h place t v >> pure Onward)
 declare w h place t None = pure Onward
@@ -178,12 +180,14 @@ defined_body w n call unit place f values h =
     within w (record h { unit = unit; function = place; frame = [] }) (places_from 0 f.parameters)
     (λ inner. initialise_parameters w inner 0 values >> statement w n call f.body inner)
 
-abbrev pub row_body : Row → Does Ending
-row_body Empty = pure Onward
+-- an empty function of the type void (void); typed trees hand it no argument
+abbrev pub row_body : World → Where → Row → List Value → Does Ending
+row_body w h Empty [] = pure Onward
+row_body w h Empty (v ∷ values) = stop w h BadCall
 
 abbrev pub body_of : World → ℕ → Calls → Option Target → List Value → Where → Does Ending
 body_of w n call (Some (Defined unit place f)) values h = defined_body w n call unit place f values h
-body_of w n call (Some (Outside row)) values h = row_body row
+body_of w n call (Some (Outside row)) values h = row_body w h row values
 body_of w n call (Some (Given b)) values h = pure Onward
 body_of w n call None values h = pure Onward
 

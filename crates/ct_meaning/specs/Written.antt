@@ -64,9 +64,12 @@ phase w call numbers s = (in_order w call numbers s).1
 
 -- ---- a test begins with no verdict and the budget: `setUp` and the test, and then `tearDown`
 
+abbrev pub phases_state : World → Calls → ℕ → ℕ → Test → State → State
+phases_state w call set_up tear_down test s =
+    phase w call (tear_down ∷ []) (phase w call (set_up ∷ test.number ∷ []) (with_test w test.name test.line s))
+
 abbrev pub test_state : World → Calls → ℕ → ℕ → Test → State → State
-test_state w call set_up tear_down test s =
-    without_test (phase w call (tear_down ∷ []) (phase w call (set_up ∷ test.number ∷ []) (with_test w test.name test.line s)))
+test_state w call set_up tear_down test s = without_test (phases_state w call set_up tear_down test s)
 
 abbrev pub tests_state : World → Calls → ℕ → ℕ → List Test → State → State
 tests_state w call set_up tear_down [] s = s

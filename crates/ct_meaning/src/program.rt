@@ -103,7 +103,7 @@ impl Program<'_> {
     }
 }
 
-fn is_external(linkage: Linkage) -> bool
+pub fn is_external(linkage: Linkage) -> bool
     ensures { result ≡ spec.is_external linkage }
 {
     match linkage {
