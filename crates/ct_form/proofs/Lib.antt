@@ -1,0 +1,10 @@
+pub mod OneWord
+pub mod OneExpression
+pub mod Shorter
+pub mod Sums
+pub mod Misses
+pub mod Units
+pub mod OneStatement
+pub mod OneFunction
+pub mod OneFile
+pub mod NoParts
