@@ -8,3 +8,6 @@ pub mod OneStatement
 pub mod OneFunction
 pub mod OneFile
 pub mod NoParts
+pub mod ShorterStatement
+pub mod StatementParts
+pub mod WhichStatement

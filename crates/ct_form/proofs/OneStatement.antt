@@ -52,15 +52,15 @@ same_declaration at p q = rw (p, q)
 same_parts : {x x' : CoreStatement} {c c' : List CoreStatement} → x ≡ x' → c ≡ c' → x ∷ c ≡ x' ∷ c'
 same_parts p q = rw (p, q)
 
-StandsName-at : {t t' r : List Token} {name : Token} → t ≡ t' → StandsName t' name r → StandsName t name r
+pub StandsName-at : {t t' r : List Token} {name : Token} → t ≡ t' → StandsName t' name r → StandsName t name r
 StandsName-at p h = rw p h
 
 module _ (signatures : List Signature) (scope : List Binding) where
-  call_or_word : {room : ℕ} {t r r' : List Token} {text : List ℕ} {s : Signature} {c : CoreExpression}
+  pub call_or_word : {room : ℕ} {t r r' : List Token} {text : List ℕ} {s : Signature} {c : CoreExpression}
       → IsCall signatures scope room t s c r → Stands text t r' → is_free_name text ≡ false → ⊥
   call_or_word (named v w k p l h) w' f = no_name w' v f
 
-  call_or_assignment : {room : ℕ} {t r m b : List Token} {name : Token} {s : Signature} {c : CoreExpression}
+  pub call_or_assignment : {room : ℕ} {t r m b : List Token} {name : Token} {s : Signature} {c : CoreExpression}
       → IsCall signatures scope room t s c r → StandsName t name m → Stands (codes "=") m b → ⊥
   call_or_assignment (named v w k p l h) v' w' = not_both w (Stands-at signatures scope (one_name v v').1 w') refl
 
@@ -95,16 +95,16 @@ module _ (signatures : List Signature) (scope : List Binding) where
   pub IsStart-at : {t t' r : List Token} {c : Option CoreExpression} → t ≡ t' → IsStart signatures scope t' c r → IsStart signatures scope t c r
   IsStart-at p h = rw p h
 
-IsStart-of : (signatures : List Signature) (scope own : List Binding) (at : At) {name name' : Token} {t t' r : List Token} {c : Option CoreExpression}
+pub IsStart-of : (signatures : List Signature) (scope own : List Binding) (at : At) {name name' : Token} {t t' r : List Token} {c : Option CoreExpression}
     → name ≡ name' → t ≡ t' → IsStart signatures (scope ++ own ++ binding at name' ∷ []) t' c r → IsStart signatures (scope ++ own ++ binding at name ∷ []) t c r
 IsStart-of signatures scope own at p q h = rw (p, q) h
 
 module _ (signatures : List Signature) (unity gives_value : Bool) where
-  IsStatement-at : {room : ℕ} {scope : List Binding} {at at' after : At} {c : CoreStatement}
+  pub IsStatement-at : {room : ℕ} {scope : List Binding} {at at' after : At} {c : CoreStatement}
       → at ≡ at' → IsStatement signatures unity gives_value room scope at' c after → IsStatement signatures unity gives_value room scope at c after
   IsStatement-at p h = rw p h
 
-  IsBody-at : {room : ℕ} {scope own own' : List Binding} {at at' after : At} {n : List ℕ} {c : List CoreStatement}
+  pub IsBody-at : {room : ℕ} {scope own own' : List Binding} {at at' after : At} {n : List ℕ} {c : List CoreStatement}
       → own ≡ own' → at ≡ at' → IsBody signatures unity gives_value room scope own' at' n c after → IsBody signatures unity gives_value room scope own at n c after
   IsBody-at q p h = rw (q, p) h
 

@@ -5,3 +5,4 @@ pub mod Expressions
 pub mod Statements
 pub mod Functions
 pub mod Form
+pub mod Readers

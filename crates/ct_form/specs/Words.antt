@@ -37,9 +37,9 @@ pub record Stands (text : List ℕ) (tokens rest : List Token) : Type 0 where
   pub first : first_word tokens ≡ Some (token, rest)
   pub spelled : token.text ≡ text
 
--- nothing of a kind stands at the front of some tokens
-abbrev pub Nothing : {C : Type 0} → (C → List Token → Type 0) → Type 0
-Nothing {C} StandsThere = (what : C) (rest : List Token) → StandsThere what rest → ⊥
+-- nothing of a kind stands at the front of some tokens, or at a place
+abbrev pub Nothing : {C R : Type 0} → (C → R → Type 0) → Type 0
+Nothing {C} {R} StandsThere = (what : C) (rest : R) → StandsThere what rest → ⊥
 
 -- no word of this text stands at the front
 abbrev pub Absent : List ℕ → List Token → Type 0

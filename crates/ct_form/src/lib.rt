@@ -11,6 +11,8 @@ mod laws;
 mod names;
 mod outside;
 mod parts;
+mod places;
+mod plain;
 mod statements;
 #[cfg(test)]
 mod tests;
