@@ -11,3 +11,4 @@ pub mod NoParts
 pub mod ShorterStatement
 pub mod StatementParts
 pub mod WhichStatement
+pub mod Blocks

@@ -188,11 +188,12 @@ module _ (signatures : List Signature) (unity gives_value : Bool) where
       a _ (Stands-at signatures scope e.2 p.closed)
 
   -- an assignment
-  pub is_assignment : {room number : ℕ} {scope : List Binding} {at after : At} {name : Token} {middle behind ending rest : List Token} {m : Mark} {core : CoreExpression}
+  pub is_assignment : {room number : ℕ} {scope : List Binding} {at after : At} {name : Token} {middle behind ending rest : List Token} {m : Mark} {core object stored : CoreExpression}
       → StandsName at.tokens name middle → Stands (codes "=") middle behind → m ≡ mark at → number_of scope name.text ≡ Some number
-      → IsExpression signatures scope parentheses behind core ending → Stands (codes ";") ending rest → after ≡ begun at rest
-      → IsStatement signatures unity gives_value room scope at (Run m (Assign int (Variable number) core)) after
-  is_assignment v w e k x z f = rw (e, f) (assignment v w k x z)
+      → IsExpression signatures scope parentheses behind core ending → Stands (codes ";") ending rest
+      → object ≡ Variable number → stored ≡ core → after ≡ begun at rest
+      → IsStatement signatures unity gives_value room scope at (Run m (Assign int object stored)) after
+  is_assignment v w e k x z o y f = rw (e, f, o, y) (assignment v w k x z)
 
   pub no_assignment_variable : {room : ℕ} {scope : List Binding} {at : At} {name : Token} {middle behind : List Token}
       → StandsName at.tokens name middle → Stands (codes "=") middle behind → number_of scope name.text ≡ None

@@ -93,9 +93,9 @@ impl<'a> Context<'a> {
         };
         let (value, ending) = names.expression(PARENTHESES, behind)?;
         let rest = word(ending, b";")?;
-        let value = Boxed::new(self.alloc, value)?;
         let object = Boxed::new(self.alloc, CoreExpression::Variable(variable))?;
-        let store = CoreExpression::Assign(INT, object, value);
+        let stored = Boxed::new(self.alloc, value)?;
+        let store = CoreExpression::Assign(INT, object, stored);
         let place = place.begun(rest)?;
         Ok((CoreStatement::Run(mark, store), place))
     }

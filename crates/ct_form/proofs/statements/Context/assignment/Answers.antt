@@ -32,4 +32,4 @@ returns-in_err-rest c room =
 pub returns : goal.returns
 returns c room =
     let e : number_of c.args.scope.now c.args.target.now.text ≡ Some c.in-Some.variable = search rules in
-    is_assignment c.args.self.now.functions.now c.args.self.now.unity c.args.self.now.gives_value c.requires.name c.requires.sign c.mark-mark.ensures e c.in_ok-value.ensures c.in_ok-rest.ensures.found c.in_ok-place.ensures
+    is_assignment c.args.self.now.functions.now c.args.self.now.unity c.args.self.now.gives_value c.requires.name c.requires.sign c.mark-mark.ensures e c.in_ok-value.ensures c.in_ok-rest.ensures.found c.in_ok-object.ensures c.in_ok-stored.ensures c.in_ok-place.ensures
