@@ -26,7 +26,7 @@ same_declared at p q = rw (p, q)
 
 new_scope : (outer : ℕ) (scope : List Binding) (b : Binding) {new : List Binding} → new ≡ take outer scope ++ drop outer scope ++ b ∷ [] → new ≡ scope ++ b ∷ []
 new_scope outer scope b e =
-    e ∙ sym (append_assoc (take outer scope) (drop outer scope) (b ∷ [])) ∙ ap (λ l. l ++ b ∷ []) (take-append-drop outer scope)
+    e ∙ ap (λ l. l ++ b ∷ []) (take-append-drop outer scope)
 
 same_take : (outer : ℕ) (scope : List Binding) (b : Binding) {new : List Binding} → outer ≤ length scope → new ≡ scope ++ b ∷ [] → take outer new ≡ take outer scope
 same_take outer scope b h e = ap (take outer) e ∙ take-append-le outer scope (b ∷ []) h

@@ -12,3 +12,7 @@ pub mod ShorterStatement
 pub mod StatementParts
 pub mod WhichStatement
 pub mod Blocks
+pub mod Declarations
+pub mod Headings
+pub mod WhichFunction
+pub mod Items

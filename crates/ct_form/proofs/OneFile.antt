@@ -30,7 +30,7 @@ three (hash ∷ a ∷ b ∷ []) rest f = (hash, a, b, refl, f.0, f.1)
 three (hash ∷ a ∷ b ∷ x ∷ directive) rest f = absurd f.2.2.2
 
 -- an include begins with its `#`, and two more tokens stand before what follows it
-hash_of : {is_first : Bool} {ts rest : List Token} → StandsInclude is_first ts rest → (a b : Token) × Stands (codes "#") ts (a ∷ b ∷ rest)
+pub hash_of : {is_first : Bool} {ts rest : List Token} → StandsInclude is_first ts rest → (a b : Token) × Stands (codes "#") ts (a ∷ b ∷ rest)
 hash_of {rest = rest} s =
     let d = three s.directive rest s.spelled in
     let split = s.split ∙ append_assoc s.lines s.directive rest ∙ ap (λ l. s.lines ++ l) d.3 in (

@@ -14,28 +14,28 @@ use Rattle.ct_form.specs.Functions.{IsLinkage, IsResult, IsParameters, IsParamet
 use Rattle.ct_form.proofs.OneWord.{one_rest, not_both, one_name}
 use Rattle.ct_form.proofs.OneStatement.{one_body}
 
-Stands-at : {text : List ℕ} {t t' r : List Token} → t ≡ t' → Stands text t' r → Stands text t r
+pub Stands-at : {text : List ℕ} {t t' r : List Token} → t ≡ t' → Stands text t' r → Stands text t r
 Stands-at p h = rw p h
 
-StandsName-at : {t t' r : List Token} {name : Token} → t ≡ t' → StandsName t' name r → StandsName t name r
+pub StandsName-at : {t t' r : List Token} {name : Token} → t ≡ t' → StandsName t' name r → StandsName t name r
 StandsName-at p h = rw p h
 
-one_linkage : {t r r' : List Token} {l l' : Linkage} → IsLinkage t l r → IsLinkage t l' r' → (l ≡ l') × (r ≡ r')
+pub one_linkage : {t r r' : List Token} {l l' : Linkage} → IsLinkage t l r → IsLinkage t l' r' → (l ≡ l') × (r ≡ r')
 one_linkage (external a) (external a') = (refl, refl)
 one_linkage (external a) (internal w') = absurd (a _ w')
 one_linkage (internal w) (external a') = absurd (a' _ w)
 one_linkage (internal w) (internal w') = (refl, one_rest w w')
 
-one_result : {t r r' : List Token} {v v' : Bool} → IsResult t v r → IsResult t v' r' → (v ≡ v') × (r ≡ r')
+pub one_result : {t r r' : List Token} {v v' : Bool} → IsResult t v r → IsResult t v' r' → (v ≡ v') × (r ≡ r')
 one_result (nothing w) (nothing w') = (refl, one_rest w w')
 one_result (nothing w) (value w') = absurd (not_both w w' refl)
 one_result (value w) (nothing w') = absurd (not_both w w' refl)
 one_result (value w) (value w') = (refl, one_rest w w')
 
-IsResult-at : {t t' r : List Token} {v : Bool} → t ≡ t' → IsResult t' v r → IsResult t v r
+pub IsResult-at : {t t' r : List Token} {v : Bool} → t ≡ t' → IsResult t' v r → IsResult t v r
 IsResult-at p h = rw p h
 
-IsParameters-of : (own : List Binding) (at : At) {name name' : Token} {t t' : List Token} {all : List Binding} {after : At} → name ≡ name' → t ≡ t'
+pub IsParameters-of : (own : List Binding) (at : At) {name name' : Token} {t t' : List Token} {all : List Binding} {after : At} → name ≡ name' → t ≡ t'
     → IsParameters (own ++ binding at name' ∷ []) (declared (moved at t') name') all after → IsParameters (own ++ binding at name ∷ []) (declared (moved at t) name) all after
 IsParameters-of own at p q h = rw (p, q) h
 
@@ -59,14 +59,14 @@ one_parameters {own = own} {at = at} (more w v d l c p) (more w' v' d' l' c' p')
     let e = one_rest c (Stands-at n.1 c') in
     one_parameters p (IsParameters-of own at n.0 e p')
 
-one_parameter_list : {own own' : List Binding} {at after after' : At}
+pub one_parameter_list : {own own' : List Binding} {at after after' : At}
     → IsParameterList at own after → IsParameterList at own' after' → (own ≡ own') × (after ≡ after')
 one_parameter_list {at = at} (none w c) (none w' c') = (refl, ap (moved at) (one_rest c (Stands-at (one_rest w w') c')))
 one_parameter_list (none w c) (some a' p') = absurd (a' _ w)
 one_parameter_list (some a p) (none w' c') = absurd (a _ w')
 one_parameter_list (some a p) (some a' p') = one_parameters p p'
 
-IsParameterList-of : {serial : ℕ} {t t' : List Token} {own : List Binding} {after : At} → t ≡ t'
+pub IsParameterList-of : {serial : ℕ} {t t' : List Token} {own : List Binding} {after : At} → t ≡ t'
     → IsParameterList (record { tokens = t'; serial = serial; variables = [] }) own after → IsParameterList (record { tokens = t; serial = serial; variables = [] }) own after
 IsParameterList-of p h = rw p h
 

@@ -1,5 +1,5 @@
--- What the functions that read statements and functions answer.
-use Rattle.std.specs.Prelude.{◌≡◌, ℕ, ◌-◌, ◌<◌, Bool, false, IsTrue, List, [], ◌∷◌, ◌++◌, length, Option, Result, codes}
+-- What the functions that read statements, functions and files answer.
+use Rattle.std.specs.Prelude.{◌≡◌, ℕ, ◌-◌, ◌<◌, Bool, false, IsTrue, List, [], ◌∷◌, ◌++◌, length, Option, Result, Ok, Err, codes}
 use Rattle.std.specs.Borrow.{Bor}
 use Rattle.std.specs.List.{list_any}
 use Rattle.ct_base.specs.declared.lexical.Token.{Token}
@@ -17,6 +17,7 @@ use Rattle.ct_form.specs.declared.statements.Inside.{Inside}
 use Rattle.ct_form.specs.declared.words.Miss.{Miss}
 use Rattle.ct_form.specs.Answers.{Answers}
 use Rattle.ct_form.specs.Expressions.{int}
+use Rattle.ct_form.specs.Form.{Before, Reads, StandsFunction, StandsInclude, start}
 use Rattle.ct_form.specs.Functions.{IsFunction, IsLinkage, IsResult, is_allowed, signature_of}
 use Rattle.ct_form.specs.Names.{is_declared, is_signed, type_of}
 use Rattle.ct_form.specs.Statements.{At, IsStart, IsStatement, IsBody, mark, begun, moved, declared, binding, nested, most_variables}
@@ -114,3 +115,19 @@ AnswersFunction signatures unity serial tokens new result =
     Answers {C = CoreFunction × List Signature × ℕ} {R = List Token} (λ found. (found.0, new, found.1)) (λ found. found.2.now)
     (λ what rest. (signature : Signature) × IsFunction signatures unity serial tokens what.0 signature what.2 rest
     × (what.1 ≡ signatures ++ signature ∷ [])) result
+
+-- neither an include nor a function stands there
+pub record HasNoItem (before : Before) (tokens : List Token) : Type 0 where
+  pub no_include : (rest : List Token) → StandsInclude before.is_first tokens rest → ⊥
+  pub no_function : (function : CoreFunction) (signature : Signature) (next : ℕ) (rest : List Token)
+      → StandsFunction before tokens function signature next rest → ⊥
+
+-- these functions before those that follow
+abbrev pub led_by_all : List CoreFunction → Result (List CoreFunction) Token → Result (List CoreFunction) Token
+led_by_all functions (Ok more) = Ok (functions ++ more)
+led_by_all functions (Err token) = Err token
+
+-- A file is read up to a place: it has these functions, and then what the rest has.
+abbrev pub ReadsUpTo : List Token → List CoreFunction → Before → List Token → Type 0
+ReadsUpTo tokens functions before rest =
+    (outcome : Result (List CoreFunction) Token) → Reads before rest outcome → Reads start tokens (led_by_all functions outcome)

@@ -1,14 +1,17 @@
 //! Test files.
 
-ghost use Rattle.std.specs.Prelude.{◌≡◌, ◌∷◌, [], ◌<◌, ◌↔◌, List, IfNone, IfSome, IsTrue, length};
+ghost use Rattle.std.specs.Prelude.{◌≡◌, ◌∷◌, [], ◌↔◌, List, Result, IfNone, IfOk, IfSome, IsTrue};
+ghost use Rattle.ct_base.specs.Answers.{OnAnswer};
 ghost use Rattle.ct_base.specs.declared.lexical.Token.{Token as token};
-ghost use Rattle.ct_form.specs.Form.{EndsLine, SpellEach, StandsInclude};
+ghost use Rattle.ct_core.specs.declared.units.CoreUnit.{CoreUnit as unit};
+ghost use Rattle.ct_form.specs.declared.outside.Outside.{Outside as refusal};
+ghost use Rattle.ct_form.specs.Form.{Before, EndsLine, HasForm, SpellEach, StandsInclude, outside_of as outside_for, unit_of as unit_for};
+ghost use Rattle.ct_form.specs.Readers.{HasNoItem, ReadsUpTo};
 
 use crate::functions::function;
-use crate::names::Signature;
 use crate::outside::Outside;
 use crate::words::{Miss, next};
-use ct_base::{Bytes, Fail, Items, Mem, Out, Text, Token, TokenKind};
+use ct_base::{Bytes, Fail, Items, Mem, Out, OutOfMemory, Text, Token, TokenKind};
 use ct_core::{CoreFunction, CoreUnit, Space};
 use ct_ctype::Structs;
 use std::alloc::Global;
@@ -58,7 +61,9 @@ fn include(tokens: &[Token], is_first: bool) -> Option<&[Token]>
 }
 
 /// The functions of a file up to the first place where no item stands, and what is left there.
-fn items(alloc: Global, tokens: &[Token]) -> Mem<(Items<CoreFunction>, &[Token])> {
+fn items(alloc: Global, tokens: &[Token]) -> Mem<(Items<CoreFunction>, &[Token])>
+    ensures { IfOk result (λ found. (before : Before) × ReadsUpTo tokens.now found.0 before found.1.now × HasNoItem before found.1.now) }
+{
     let mut functions = Items::new(alloc);
     let mut signatures = Vec::new(alloc);
     let mut serial = 0;
@@ -67,38 +72,31 @@ fn items(alloc: Global, tokens: &[Token]) -> Mem<(Items<CoreFunction>, &[Token])
     let mut rest = tokens;
     loop {
         if let Some(after) = include(rest, is_first) {
+            is_first = false;
             unity = true;
             rest = after;
-        } else {
-            if functions.len() >= MOST_FUNCTIONS {
-                return Ok((functions, rest));
-            }
-            match function(alloc, &mut signatures, unity, serial, rest) {
-                Ok((function, next, after)) => {
-                    functions.push(function)?;
-                    serial = next;
-                    rest = after;
-                }
-                Err(Miss::Elsewhere) => return Ok((functions, rest)),
-                Err(Miss::OutOfMemory) => return Err(ct_base::OutOfMemory),
-            }
+            continue;
         }
-        is_first = false;
+        if functions.len() >= MOST_FUNCTIONS {
+            return Ok((functions, rest));
+        }
+        match function(alloc, &mut signatures, unity, serial, rest) {
+            Ok((function, next, after)) => {
+                functions.push(function)?;
+                is_first = false;
+                serial = next;
+                rest = after;
+            }
+            Err(Miss::Elsewhere) => return Ok((functions, rest)),
+            Err(Miss::OutOfMemory) => return Err(OutOfMemory),
+        }
     }
 }
 
-/// The core unit of a test file of this path and these tokens, or the first token that is outside
-/// the form: that of the first function outside it, or of what is neither an include nor a
-/// function.
-pub fn read(alloc: Global, path: &str, tokens: &[Token]) -> Out<CoreUnit, Outside> {
-    let (functions, rest) = items(alloc, tokens)?;
-    if let Some((token, _)) = next(rest) {
-        let word = Bytes::from_slice(alloc, token.text.as_slice())?;
-        return Err(Fail::Fault(Outside {
-            line: token.span.line,
-            word,
-        }));
-    }
+/// The core unit of a test file with this path.
+fn unit_of(alloc: Global, path: &str, functions: Items<CoreFunction>) -> Mem<CoreUnit>
+    ensures { IfOk result (λ unit. unit ≡ unit_for path.now functions) }
+{
     let mut files = Items::new(alloc);
     files.push(Text::copy_of(alloc, path)?)?;
     Ok(CoreUnit {
@@ -108,4 +106,29 @@ pub fn read(alloc: Global, path: &str, tokens: &[Token]) -> Out<CoreUnit, Outsid
         texts: Items::new(alloc),
         structs: Structs::new(alloc),
     })
+}
+
+/// A refusal that names this token.
+fn outside_of(alloc: Global, token: &Token) -> Mem<Outside>
+    ensures { IfOk result (λ outside. outside ≡ outside_for token.now) }
+{
+    Ok(Outside {
+        line: token.span.line,
+        word: Bytes::from_slice(alloc, token.text.as_slice())?,
+    })
+}
+
+/// The core unit of a test file of this path and these tokens, or the first token that is outside
+/// the form: that of the first function outside it, or of what is neither an include nor a
+/// function.
+pub fn read(alloc: Global, path: &str, tokens: &[Token]) -> Out<CoreUnit, Outside>
+    ensures form { OnAnswer result (HasForm path.now tokens.now) }
+    // So a file is refused exactly where it is outside the form, and with that one token.
+    ensures alone { (other : Result unit refusal) → HasForm path.now tokens.now other → OnAnswer result (λ answer. answer ≡ other) }
+{
+    let (functions, rest) = items(alloc, tokens)?;
+    match next(rest) {
+        Some((token, _)) => Err(Fail::Fault(outside_of(alloc, token)?)),
+        None => Ok(unit_of(alloc, path, functions)?),
+    }
 }

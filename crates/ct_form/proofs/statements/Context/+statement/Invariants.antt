@@ -18,10 +18,10 @@ decreases-choice l = 4 * l.room + 1
 abbrev pub decreases-turns : goal.decreases-turns
 decreases-turns l = 4 * l.room + 1
 
-abbrev pub invariant-body-loop-place : goal.invariant-body-loop-place
-invariant-body-loop-place l =
+abbrev pub invariant-body-loop-rest : goal.invariant-body-loop-rest
+invariant-body-loop-rest l =
     BlockReads l.self.functions.now l.self.unity l.self.gives_value l.outer l.fn.scope.items (at_of l.fn.place) l.room
     l.numbers l.parts l.scope.items (at_of l.place)
 
-abbrev pub decreases-body-loop-place : goal.decreases-body-loop-place
-decreases-body-loop-place l = length l.place.tokens.now
+abbrev pub decreases-body-loop-rest : goal.decreases-body-loop-rest
+decreases-body-loop-rest l = length l.place.tokens.now
