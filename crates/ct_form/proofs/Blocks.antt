@@ -1,5 +1,6 @@
 -- How far a block is read, and what reading goes on or ends.
 use Rattle.std.proofs.Common.{◌≡◌, ℕ, ◌<◌, ◌≤◌, Bool, List, [], ◌∷◌, ◌++◌, length, take, drop, refl, sym, ap, ◌∙◌, append_assoc, arith}
+use Rattle.std.proofs.Math.Seq.{take-length, drop-length}
 use Rattle.std.proofs.lemmas.List.{take-append-le, drop-append-le, take-append-drop, length-append}
 use Rattle.std.specs.Prelude.{Option, codes}
 use Rattle.ct_base.specs.declared.lexical.Token.{Token}
@@ -43,6 +44,13 @@ same_core at c p e = rw (e, p)
 
 one_more : {A : Type 0} (xs ys zs : List A) (x : A) → ys ≡ xs ++ zs → (rest : List A) → zs ≡ x ∷ rest → ys ≡ (xs ++ x ∷ []) ++ rest
 one_more xs ys zs x e rest f = e ∙ ap (λ l. xs ++ l) f ∙ sym (append_assoc xs (x ∷ []) rest)
+
+-- a block begins with the whole scope around it, and none of its own
+pub whole_take : (n : ℕ) (scope : List Binding) → n ≡ length scope → take n scope ≡ scope
+whole_take n scope e = ap (λ n. take n scope) e ∙ take-length scope
+
+pub no_drop : (n : ℕ) (scope : List Binding) → n ≡ length scope → drop n scope ≡ []
+no_drop n scope e = ap (λ n. drop n scope) e ∙ drop-length scope
 
 module _ (signatures : List Signature) (unity gives_value : Bool) where
   IsDeclaration-of : {scope scope' own : List Binding} {at after : At} {behind : List Token} {core : CoreStatement} {name : Token}
@@ -114,6 +122,10 @@ module _ (signatures : List Signature) (unity gives_value : Bool) where
     pub back : (n : List ℕ) (c : List CoreStatement) (ending : At) → IsBody signatures unity gives_value room (take outer first) (drop outer first) start n c ending
         → (n' : List ℕ) × (c' : List CoreStatement) × (n ≡ numbers ++ n') × (c ≡ parts ++ c')
         × IsBody signatures unity gives_value room (take outer first) (drop outer scope) at n' c' ending
+
+  pub BlockReads-to : {outer : ℕ} {first : List Binding} {start : At} {room : ℕ} {numbers numbers' : List ℕ} {parts parts' : List CoreStatement} {scope : List Binding} {at : At}
+      → numbers ≡ numbers' → parts ≡ parts' → BlockReads outer first start room numbers' parts' scope at → BlockReads outer first start room numbers parts scope at
+  BlockReads-to p q h = rw (p, q) h
 
   pub block_begins : (outer : ℕ) (first : List Binding) (start : At) (room : ℕ) → outer ≤ length first → BlockReads outer first start room [] [] first start
   block_begins outer first start room h = record {

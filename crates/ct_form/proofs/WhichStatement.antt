@@ -68,18 +68,18 @@ module _ (signatures : List Signature) (unity gives_value : Bool) where
       n (p.numbers, p.parts) after (IsBody-of b o f p.body)
 
   -- an `if`
-  pub is_only : {room : ℕ} {scope seen : List Binding} {at at' after : At} {behind inside : List Token} {m : Mark} {test : CoreExpression} {yes : CoreStatement}
+  pub is_only : {room : ℕ} {scope seen : List Binding} {at at' after : At} {behind inside : List Token} {m : Mark} {test : CoreExpression} {yes first : CoreStatement}
       → Stands (codes "if") at.tokens behind → 0 < room → m ≡ mark at → seen ≡ scope → IsTest signatures seen behind test inside → at' ≡ begun at inside
-      → IsStatement signatures unity gives_value (room - 1) scope at' yes after → Absent (codes "else") after.tokens
-      → IsStatement signatures unity gives_value room scope at (If m test yes None) after
-  is_only w p e b q f s a = rw e (only w p (IsTest-of (sym b) q) (IsStatement-at signatures unity gives_value (sym f) s) a)
+      → IsStatement signatures unity gives_value (room - 1) scope at' yes after → first ≡ yes → Absent (codes "else") after.tokens
+      → IsStatement signatures unity gives_value room scope at (If m test first None) after
+  is_only w p e b q f s y a = rw (e, y) (only w p (IsTest-of (sym b) q) (IsStatement-at signatures unity gives_value (sym f) s) a)
 
-  pub is_either : {room : ℕ} {scope seen later : List Binding} {at at' at'' middle after : At} {behind inside others : List Token} {m : Mark} {test : CoreExpression} {yes no : CoreStatement}
+  pub is_either : {room : ℕ} {scope seen later : List Binding} {at at' at'' middle after : At} {behind inside others : List Token} {m : Mark} {test : CoreExpression} {yes no first second : CoreStatement}
       → Stands (codes "if") at.tokens behind → 0 < room → m ≡ mark at → seen ≡ scope → IsTest signatures seen behind test inside → at' ≡ begun at inside
-      → IsStatement signatures unity gives_value (room - 1) scope at' yes middle → Stands (codes "else") middle.tokens others
-      → later ≡ scope → at'' ≡ moved middle others → IsStatement signatures unity gives_value (room - 1) later at'' no after
-      → IsStatement signatures unity gives_value room scope at (If m test yes (Some no)) after
-  is_either w p e b q f s o l g d = rw e (either w p (IsTest-of (sym b) q) (IsStatement-at signatures unity gives_value (sym f) s) o (IsStatement-of (sym l) (sym g) d))
+      → IsStatement signatures unity gives_value (room - 1) scope at' yes middle → first ≡ yes → Stands (codes "else") middle.tokens others
+      → later ≡ scope → at'' ≡ moved middle others → IsStatement signatures unity gives_value (room - 1) later at'' no after → second ≡ no
+      → IsStatement signatures unity gives_value room scope at (If m test first (Some second)) after
+  is_either w p e b q f s y o l g d z = rw (e, y, z) (either w p (IsTest-of (sym b) q) (IsStatement-at signatures unity gives_value (sym f) s) o (IsStatement-of (sym l) (sym g) d))
 
   pub no_choice_room : {room : ℕ} {scope : List Binding} {at : At} {behind : List Token}
       → Stands (codes "if") at.tokens behind → (0 < room → ⊥) → Nothing (IsStatement signatures unity gives_value room scope at)
@@ -113,11 +113,11 @@ module _ (signatures : List Signature) (unity gives_value : Bool) where
       n other.0 other.1 (IsStatement-of l (g ∙ ap (λ (a : At). moved a others) y.1) other.2)
 
   -- a `while`
-  pub is_turn : {room : ℕ} {scope seen : List Binding} {at at' after : At} {behind inside : List Token} {m : Mark} {test : CoreExpression} {turn : CoreStatement}
+  pub is_turn : {room : ℕ} {scope seen : List Binding} {at at' after : At} {behind inside : List Token} {m : Mark} {test : CoreExpression} {turn part : CoreStatement}
       → Stands (codes "while") at.tokens behind → 0 < room → m ≡ mark at → seen ≡ scope → IsTest signatures seen behind test inside → at' ≡ begun at inside
-      → IsStatement signatures unity gives_value (room - 1) scope at' turn after
-      → IsStatement signatures unity gives_value room scope at (While m test turn) after
-  is_turn w p e b q f s = rw e (while w p (IsTest-of (sym b) q) (IsStatement-at signatures unity gives_value (sym f) s))
+      → IsStatement signatures unity gives_value (room - 1) scope at' turn after → part ≡ turn
+      → IsStatement signatures unity gives_value room scope at (While m test part) after
+  is_turn w p e b q f s y = rw (e, y) (while w p (IsTest-of (sym b) q) (IsStatement-at signatures unity gives_value (sym f) s))
 
   pub no_turn_room : {room : ℕ} {scope : List Binding} {at : At} {behind : List Token}
       → Stands (codes "while") at.tokens behind → (0 < room → ⊥) → Nothing (IsStatement signatures unity gives_value room scope at)

@@ -112,13 +112,13 @@ impl<'a> Context<'a> {
         let (test, inside) = self.test(scope.as_slice(), behind)?;
         let place = place.begun(inside)?;
         let (yes, place) = self.statement(room - 1, scope, place)?;
-        let yes = Boxed::new(self.alloc, yes)?;
+        let first = Boxed::new(self.alloc, yes)?;
         let Ok(others) = word(place.tokens, b"else") else {
-            return Ok((CoreStatement::If(mark, test, yes, None), place));
+            return Ok((CoreStatement::If(mark, test, first, None), place));
         };
         let (no, place) = self.statement(room - 1, scope, place.moved(others))?;
-        let no = Boxed::new(self.alloc, no)?;
-        Ok((CoreStatement::If(mark, test, yes, Some(no)), place))
+        let second = Boxed::new(self.alloc, no)?;
+        Ok((CoreStatement::If(mark, test, first, Some(second)), place))
     }
 
     /// A `while` with its part, behind its first word.
@@ -141,8 +141,8 @@ impl<'a> Context<'a> {
         let (test, inside) = self.test(scope.as_slice(), behind)?;
         let place = place.begun(inside)?;
         let (turn, place) = self.statement(room - 1, scope, place)?;
-        let turn = Boxed::new(self.alloc, turn)?;
-        Ok((CoreStatement::While(mark, test, turn), place))
+        let part = Boxed::new(self.alloc, turn)?;
+        Ok((CoreStatement::While(mark, test, part), place))
     }
 
     /// What stands in a block, with its closing brace. Behind `outer` the scope has the

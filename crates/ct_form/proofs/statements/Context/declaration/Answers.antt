@@ -9,7 +9,7 @@ use Rattle.ct_form.specs.Names.{is_declared}
 use Rattle.ct_form.specs.Readers.{at_of}
 use Rattle.ct_form.specs.Statements.{At, IsStart, binding, declared, most_variables}
 use Rattle.ct_form.proofs.Misses.{missed, handed_on}
-use Rattle.ct_form.proofs.Declarations.{DeclaresThere, in_two, with_binding, not_declared, no_declaration_name, no_declaration_start, no_declaration_end, is_declaration}
+use Rattle.ct_form.proofs.Declarations.{DeclaresThere, in_two, with_binding, no_declaration_name, no_declaration_start, no_declaration_end, is_declaration}
 use Rattle.ct_form.proofs.statements.Context.declaration.Goals as goal
 
 pub returns-in_err-name-clause-declaration : goal.returns-in_err-name-clause-declaration
