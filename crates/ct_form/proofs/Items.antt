@@ -1,12 +1,14 @@
 -- How far a file is read, and what is left there.
 use Rattle.std.proofs.Common.{◌≡◌, ℕ, ◌+◌, ◌<◌, ◌≤◌, Bool, List, [], ◌∷◌, ◌++◌, length, true, false, refl, sym, ap, ◌∙◌, append_assoc, arith}
 use Rattle.std.proofs.lemmas.List.{length-append}
-use Rattle.std.specs.Prelude.{Result, Ok, Err, IsTrue}
+use Rattle.std.specs.Prelude.{Some, None, Result, Ok, Err}
 use Rattle.ct_base.specs.declared.lexical.Token.{Token}
 use Rattle.ct_core.specs.declared.units.CoreFunction.{CoreFunction}
+use Rattle.ct_core.specs.declared.units.CoreUnit.{CoreUnit}
 use Rattle.ct_form.specs.declared.names.Signature.{Signature}
-use Rattle.ct_form.specs.Words.{Nothing}
-use Rattle.ct_form.specs.Form.{Before, StandsInclude, Reads, include, function, start, most_functions, led_by, with_include, with_function}
+use Rattle.ct_form.specs.declared.outside.Outside.{Outside}
+use Rattle.ct_form.specs.Words.{Nothing, first_word}
+use Rattle.ct_form.specs.Form.{Before, StandsInclude, Reads, ends, include, function, outside, start, most_functions, led_by, unit_of, outside_of, HasForm}
 use Rattle.ct_form.specs.Readers.{HasNoItem, ReadsUpTo, led_by_all}
 use Rattle.ct_form.proofs.OneFile.{hash_of}
 use Rattle.ct_form.proofs.OneWord.{Stands-shorter}
@@ -72,3 +74,17 @@ include-shorter s = let a = Stands-shorter (hash_of s).2 in omega arith
 pub item-shorter : {signatures : List Signature} {unity : Bool} {serial : ℕ} {tokens after : List Token} {what : CoreFunction × List Signature × ℕ}
     → FunctionThere signatures unity serial tokens what after → length after < length tokens
 item-shorter h = function-shorter h.1
+
+append-nil : {A : Type 0} (xs : List A) → xs ++ [] ≡ xs
+append-nil [] = refl
+append-nil (x ∷ xs) = ap (λ ys. x ∷ ys) (append-nil xs)
+
+pub has_unit : {path : List ℕ} {tokens rest : List Token} {functions : List CoreFunction} {before : Before} {unit : CoreUnit}
+    → ReadsUpTo tokens functions before rest → first_word rest ≡ None → unit ≡ unit_of path functions → HasForm path tokens (Ok unit)
+has_unit {functions = functions} r e u =
+    (functions, Reads-to (ap (λ (l : List CoreFunction). Ok l) (sym (append-nil functions))) (r (Ok []) (ends e)), u)
+
+pub has_refusal : {path : List ℕ} {tokens rest after : List Token} {functions : List CoreFunction} {before : Before} {token : Token} {refused : Outside}
+    → ReadsUpTo tokens functions before rest → HasNoItem before rest → first_word rest ≡ Some (token, after) → refused ≡ outside_of token
+    → HasForm path tokens (Err refused)
+has_refusal {token = token} r n e u = (token, r (Err token) (outside e n.no_include n.no_function), u)

@@ -30,3 +30,9 @@ pub passed_on : {X C D R : Type 0} (value : X → C) (value' : X → D) (rest : 
 passed_on value value' rest Part Whole (Ok x) a f g = f x a
 passed_on value value' rest Part Whole (Err Elsewhere) a f g = g a
 passed_on value value' rest Part Whole (Err OutOfMemory) a f g = tt
+
+-- a reader that says that its part stands elsewhere
+pub elsewhere : {X C R : Type 0} (value : X → C) (rest : X → R) (There : C → R → Type 0) (miss : Miss)
+    → miss ≡ Elsewhere → Answers value rest There (Err miss) → Nothing There
+elsewhere value rest There Elsewhere e n = n
+elsewhere value rest There OutOfMemory e n = absurd (cc)

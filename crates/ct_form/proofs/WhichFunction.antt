@@ -33,7 +33,7 @@ DefinitionThere signatures unity linkage gives_value name own heading what rest 
     × (what.1 ≡ signatures ++ signature_of name gives_value own ∷ [])
 
 -- where the parameters begin
-abbrev first_place : ℕ → List Token → At
+abbrev pub first_place : ℕ → List Token → At
 first_place serial tokens = record { tokens = tokens; serial = serial; variables = [] }
 
 abbrev function_of : Token → FunctionType → Linkage → ℕ → List Variable → Mark → List ℕ → List CoreStatement → CoreFunction
@@ -150,10 +150,6 @@ IsBody-of : {signatures signatures' : List Signature} {unity v : Bool} {room : �
 IsBody-of p q r s h = rw (p, q, r, s) h
 
 module _ (signatures : List Signature) (unity : Bool) (linkage : Linkage) (gives_value : Bool) (name : Token) (own : List Binding) (heading : At) where
-  pub no_definition_signature : (list_any (is_signed name.text) signatures ≡ false → IsTrue (is_allowed (signature_of name gives_value own)) → ⊥)
-      → Nothing (DefinitionThere signatures unity linkage gives_value name own heading)
-  no_definition_signature n what rest d = n d.0.is_new d.0.allowed
-
   pub no_definition_brace : Absent (codes "{") heading.tokens → Nothing (DefinitionThere signatures unity linkage gives_value name own heading)
   no_definition_brace a what rest d = a _ d.0.braced
 
@@ -164,36 +160,6 @@ module _ (signatures : List Signature) (unity : Bool) (linkage : Linkage) (gives
       → Nothing (DefinitionThere signatures unity linkage gives_value name own heading)
   no_definition_body w e b o f n what rest d =
       n (d.0.numbers, d.0.parts) d.0.ending (IsBody-of e b o (f ∙ ap (begun heading) (one_rest w d.0.braced)) d.0.body)
-
-  pub is_definition : {inside rest : List Token} {new : List Signature} {base own' : List Binding} {at ending : At} {m : Mark} {kind : FunctionType}
-      {parameters : ℕ} {text : List ℕ} {numbers : List ℕ} {parts : List CoreStatement}
-      → list_any (is_signed name.text) signatures ≡ false → IsTrue (is_allowed (signature_of name gives_value own))
-      → Stands (codes "{") heading.tokens inside → new ≡ signatures ++ signature_of name gives_value own ∷ []
-      → base ≡ [] → own' ≡ own → at ≡ begun heading inside
-      → IsBody new unity gives_value (nested - 1) base own' at numbers parts ending
-      → text ≡ name.text → kind ≡ type_of (signature_of name gives_value own) → parameters ≡ length own → m ≡ mark heading
-      → DefinitionThere signatures unity linkage gives_value name own heading (record {
-        name = text;
-        kind = kind;
-        linkage = linkage;
-        span = name.span;
-        parameters = parameters;
-        variables = ending.variables;
-        body = Block m numbers parts;
-      }, new, ending.serial) ending.tokens
-  is_definition {inside} {numbers = numbers} {parts = parts} {ending = ending} i a w e b o f h t k p r = (record {
-    is_new = i;
-    allowed = a;
-    inside = inside;
-    braced = w;
-    numbers = numbers;
-    parts = parts;
-    ending = ending;
-    body = IsBody-of (sym e) (sym b) (sym o) (sym f) h;
-    function_is = rw (t, k, p, r);
-    next_is = refl;
-    rest_is = refl;
-  }, e)
 
 -- what follows a function is shorter
 linkage-shorter : {t r : List Token} {l : Linkage} → IsLinkage t l r → length r ≤ length t
@@ -216,3 +182,8 @@ function-shorter h =
     let g = body-shorter _ _ _ h.body in
     let r = ap length h.rest_is in
     omega arith
+
+-- where no variable is declared yet
+pub place_begins : (serial : ℕ) (tokens : List Token) (variables : List Variable) → variables ≡ []
+    → ◌≡◌ {A = At} (record { tokens = tokens; serial = serial; variables = variables }) (first_place serial tokens)
+place_begins serial tokens variables e = rw e
