@@ -79,12 +79,12 @@ append-nil : {A : Type 0} (xs : List A) → xs ++ [] ≡ xs
 append-nil [] = refl
 append-nil (x ∷ xs) = ap (λ ys. x ∷ ys) (append-nil xs)
 
-pub has_unit : {path : List ℕ} {tokens rest : List Token} {functions : List CoreFunction} {before : Before} {unit : CoreUnit}
+pub has_unit : (path : List ℕ) (functions : List CoreFunction) {tokens rest : List Token} {before : Before} {unit : CoreUnit}
     → ReadsUpTo tokens functions before rest → first_word rest ≡ None → unit ≡ unit_of path functions → HasForm path tokens (Ok unit)
-has_unit {functions = functions} r e u =
+has_unit path functions r e u =
     (functions, Reads-to (ap (λ (l : List CoreFunction). Ok l) (sym (append-nil functions))) (r (Ok []) (ends e)), u)
 
-pub has_refusal : {path : List ℕ} {tokens rest after : List Token} {functions : List CoreFunction} {before : Before} {token : Token} {refused : Outside}
+pub has_refusal : (path : List ℕ) (functions : List CoreFunction) {tokens rest after : List Token} {before : Before} {token : Token} {refused : Outside}
     → ReadsUpTo tokens functions before rest → HasNoItem before rest → first_word rest ≡ Some (token, after) → refused ≡ outside_of token
     → HasForm path tokens (Err refused)
-has_refusal {token = token} r n e u = (token, r (Err token) (outside e n.no_include n.no_function), u)
+has_refusal path functions {token = token} r n e u = (token, r (Err token) (outside e n.no_include n.no_function), u)

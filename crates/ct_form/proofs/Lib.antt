@@ -16,3 +16,4 @@ pub mod Declarations
 pub mod Headings
 pub mod WhichFunction
 pub mod Items
+pub mod Includes

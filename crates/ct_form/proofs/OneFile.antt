@@ -14,7 +14,7 @@ use Rattle.ct_form.specs.Form.{SpellEach, include_words, StandsInclude, Before, 
 use Rattle.ct_form.proofs.OneWord.{one_rest, not_both, pair_parts}
 use Rattle.ct_form.proofs.OneFunction.{one_function}
 
-first_word-lines : (lines : List Token) (t : Token) (after : List Token) → All (λ token. IsTrue (is_line token)) lines → is_line t ≡ false
+pub first_word-lines : (lines : List Token) (t : Token) (after : List Token) → All (λ token. IsTrue (is_line token)) lines → is_line t ≡ false
     → first_word (lines ++ t ∷ after) ≡ Some (t, after)
 first_word-lines [] t after h e = rw e
 first_word-lines (x ∷ lines) t after h e =

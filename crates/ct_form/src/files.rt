@@ -1,6 +1,6 @@
 //! Test files.
 
-ghost use Rattle.std.specs.Prelude.{◌≡◌, ◌∷◌, [], ◌↔◌, List, Result, IfNone, IfOk, IfSome, IsTrue};
+ghost use Rattle.std.specs.Prelude.{◌≡◌, ◌∷◌, [], ◌↔◌, List, Result, IfNone, IfOk, IfSome, IsTrue, codes, true};
 ghost use Rattle.ct_base.specs.Answers.{OnAnswer};
 ghost use Rattle.ct_base.specs.declared.lexical.Token.{Token as token};
 ghost use Rattle.ct_core.specs.declared.units.CoreUnit.{CoreUnit as unit};
@@ -43,21 +43,37 @@ fn ends_line(tokens: &[Token]) -> bool
     }
 }
 
+fn is_hash(token: &Token) -> bool
+    ensures { IsTrue result ↔ (token.now.text ≡ codes "#") }
+{
+    token.text.as_slice() == b"#".as_slice()
+}
+
+/// What follows an include that stands at the front and ends its line, wherever it begins.
+fn directive(tokens: &[Token]) -> Option<&[Token]>
+    ensures found { IfSome result (λ rest. StandsInclude true tokens.now rest.now) }
+    ensures none { IfNone result ((rest : List token) → StandsInclude true tokens.now rest → ⊥) }
+{
+    let (hash, behind) = next(tokens)?;
+    if !is_hash(hash) {
+        return None;
+    }
+    let middle = after_token(behind, b"include")?;
+    let rest = after_token(middle, b"\"unity.h\"")?;
+    if ends_line(rest) { Some(rest) } else { None }
+}
+
 /// What follows an include line that stands at the front.
 fn include(tokens: &[Token], is_first: bool) -> Option<&[Token]>
     ensures found { IfSome result (λ rest. StandsInclude is_first tokens.now rest.now) }
     ensures none { IfNone result ((rest : List token) → StandsInclude is_first tokens.now rest → ⊥) }
 {
-    if !is_first && !ends_line(tokens) {
-        return None;
+    let follows_line = ends_line(tokens);
+    if is_first || follows_line {
+        directive(tokens)
+    } else {
+        None
     }
-    let (hash, rest) = next(tokens)?;
-    if hash.text.as_slice() != b"#".as_slice() {
-        return None;
-    }
-    let rest = after_token(rest, b"include")?;
-    let rest = after_token(rest, b"\"unity.h\"")?;
-    if ends_line(rest) { Some(rest) } else { None }
 }
 
 /// The functions of a file up to the first place where no item stands, and what is left there.
