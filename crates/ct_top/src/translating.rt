@@ -6,17 +6,20 @@ ghost use Rattle.ct_base.specs.Answers.{IfFault, OnAnswer};
 ghost use Rattle.ct_base.specs.declared.lexical.Token.{Token as token};
 ghost use Rattle.ct_top.specs.Meaning.{FileMeans, TokensMean};
 ghost use Rattle.ct_find.specs.Limits.{most_file_bytes};
+ghost use Rattle.ct_token.specs.Lexing.{IsTokenization};
 ghost use Rattle.ct_top.specs.Project.{FilesMean, text_at};
 
-use crate::form::next;
-use crate::items::read_items;
 use crate::refusing::{open_comment, unsupported};
-use crate::running::run_tests;
-use ct_base::{Fail, Items, Out, Refusal, Text, Token};
+use ct_base::{Fail, Out, Refusal, Text, Token};
+use ct_form::read;
+use ct_meaning::test_log;
 use ct_outside::Finder;
 use ct_report::RunLog;
 use ct_token::tokens;
 use std::alloc::Global;
+
+/// The steps that a test may take.
+const STEP_BUDGET: u64 = 1_000_000;
 
 /// The text of a file.
 fn text_at<'a, F: Finder>(finder: &'a F, path: &str) -> &'a [u8]
@@ -47,24 +50,20 @@ fn run_file(alloc: Global, path: &str, text: &[u8]) -> Out<RunLog, Refusal>
     ensures { OnAnswer result (FileMeans path.now text.now) }
 {
     match tokens(alloc, 0, text) {
-        Ok(tokens) => run_tokens(alloc, path, tokens.as_slice()),
+        Ok(tokens) => run_tokens(alloc, path, text, tokens.as_slice()),
         Err(Fail::OutOfMemory) => Err(Fail::OutOfMemory),
         Err(Fail::Fault(fault)) => Err(Fail::Fault(open_comment(alloc, path, fault.line)?)),
     }
 }
 
 /// The log of a test file of these tokens, or why it is refused.
-fn run_tokens(alloc: Global, path: &str, tokens: &[Token]) -> Out<RunLog, Refusal>
+fn run_tokens(alloc: Global, path: &str, text: &[u8], tokens: &[Token]) -> Out<RunLog, Refusal>
+    requires { IsTokenization 0 text.now tokens.now }
     ensures { OnAnswer result (TokensMean path.now tokens.now) }
 {
-    let (tests, rest) = read_items(alloc, tokens)?;
-    if let Some((token, _)) = next(rest) {
-        return Err(Fail::Fault(unsupported(alloc, path, token)?));
+    match read(alloc, path, tokens) {
+        Ok(unit) => Ok(test_log(alloc, unit, STEP_BUDGET)?),
+        Err(Fail::OutOfMemory) => Err(Fail::OutOfMemory),
+        Err(Fail::Fault(outside)) => Err(Fail::Fault(unsupported(alloc, path, &outside)?)),
     }
-    let lines = run_tests(alloc, tests.as_slice())?;
-    let file = Text::copy_of(alloc, path)?;
-    Ok(RunLog {
-        file,
-        tests: Items::from_vec(lines),
-    })
 }
