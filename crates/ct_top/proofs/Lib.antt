@@ -6,4 +6,6 @@ mod Projects
 mod NameLemmas
 mod Searches
 mod OneOutcome
+mod FreeNames
+mod BodyNames
 mod Units

@@ -5,8 +5,7 @@ use Rattle.ct_base.specs.declared.refusals.Refusal.{Refusal}
 use Rattle.ct_core.specs.declared.units.CoreUnit.{CoreUnit}
 use Rattle.ct_form.specs.declared.outside.Outside.{Outside}
 use Rattle.ct_form.specs.Form.{HasForm}
-use Rattle.ct_meaning.specs.Linked.{runner_of}
-use Rattle.ct_meaning.specs.Table.{table_of}
+use Rattle.ct_meaning.specs.Linked.{runner_of, table_in_order}
 use Rattle.ct_meaning.specs.Written.{written_log, written_world}
 use Rattle.ct_report.specs.declared.logs.RunLog.{RunLog}
 use Rattle.ct_token.specs.Lexing.{IsTokenization, LeavesOpen}
@@ -19,7 +18,7 @@ step_budget = 1000000
 -- program that it makes with its runner.
 abbrev pub unit_log : List ℕ → CoreUnit → RunLog
 unit_log path unit =
-    written_log (written_world (unit ∷ []) (table_of (unit ∷ runner_of path (unit ∷ []) ∷ [])) step_budget)
+    written_log (written_world (unit ∷ []) (table_in_order (unit ∷ runner_of path (unit ∷ []) ∷ [])) step_budget)
 
 -- the number of the kind of refusals of words outside what is read
 abbrev pub unsupported_kind : ℕ

@@ -1,16 +1,16 @@
 //! From the bytes of test files to their logs.
 
-ghost use Rattle.std.specs.Prelude.{◌≡◌, ◌≤◌, ℕ, List, Some, IfOk, Result, length};
+ghost use Rattle.std.specs.Prelude.{◌≡◌, ◌<◌, ◌≤◌, ◌^◌, All, ℕ, List, Some, IfOk, Result, length};
 ghost use Rattle.std.specs.FinMap.{get};
 ghost use Rattle.ct_base.specs.Answers.{IfFault, OnAnswer};
 ghost use Rattle.ct_base.specs.declared.lexical.Token.{Token as token};
 ghost use Rattle.ct_top.specs.Meaning.{FileMeans, TokensMean};
 ghost use Rattle.ct_find.specs.Limits.{most_file_bytes};
-ghost use Rattle.ct_token.specs.Lexing.{IsTokenization};
 ghost use Rattle.ct_top.specs.Project.{FilesMean, text_at};
 
 use crate::refusing::{open_comment, unsupported};
 use ct_base::{Fail, Out, Refusal, Text, Token};
+use ct_core::CoreFunction;
 use ct_form::read;
 use ct_meaning::test_log;
 use ct_outside::Finder;
@@ -50,19 +50,36 @@ fn run_file(alloc: Global, path: &str, text: &[u8]) -> Out<RunLog, Refusal>
     ensures { OnAnswer result (FileMeans path.now text.now) }
 {
     match tokens(alloc, 0, text) {
-        Ok(tokens) => run_tokens(alloc, path, text, tokens.as_slice()),
+        Ok(tokens) => run_tokens(alloc, path, tokens.as_slice()),
         Err(Fail::OutOfMemory) => Err(Fail::OutOfMemory),
         Err(Fail::Fault(fault)) => Err(Fail::Fault(open_comment(alloc, path, fault.line)?)),
     }
 }
 
+/// The number of a line has 32 bits.
+fn has_bits(line: u32)
+    ensures { line < 2 ^ 32 }
+{
+}
+
+/// The lines of functions are numbers of 32 bits.
+fn count_lines(functions: &[CoreFunction])
+    ensures { All (λ f. f.span.line < 2 ^ 32) functions.now }
+{
+    for function in functions {
+        has_bits(function.span.line);
+    }
+}
+
 /// The log of a test file of these tokens, or why it is refused.
-fn run_tokens(alloc: Global, path: &str, text: &[u8], tokens: &[Token]) -> Out<RunLog, Refusal>
-    requires { IsTokenization 0 text.now tokens.now }
+fn run_tokens(alloc: Global, path: &str, tokens: &[Token]) -> Out<RunLog, Refusal>
     ensures { OnAnswer result (TokensMean path.now tokens.now) }
 {
     match read(alloc, path, tokens) {
-        Ok(unit) => Ok(test_log(alloc, unit, STEP_BUDGET)?),
+        Ok(unit) => {
+            count_lines(unit.functions.as_slice());
+            Ok(test_log(alloc, unit, STEP_BUDGET)?)
+        }
         Err(Fail::OutOfMemory) => Err(Fail::OutOfMemory),
         Err(Fail::Fault(outside)) => Err(Fail::Fault(unsupported(alloc, path, &outside)?)),
     }
