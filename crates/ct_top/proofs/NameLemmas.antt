@@ -56,7 +56,7 @@ name_found name (path ∷ paths) h = ⊎_elim
     (λ later. or_right (bytes_eq (base_name path) name) (has_name name paths) (name_found name paths later))
     (contains_cases (base_name path) (map base_name paths) name h)
 
-once_push : {A : Type 0} (xs : List A) (x : A) → (Contains xs x → ⊥) → EachOnce xs → EachOnce (xs ++ x ∷ [])
+pub once_push : {A : Type 0} (xs : List A) (x : A) → (Contains xs x → ⊥) → EachOnce xs → EachOnce (xs ++ x ∷ [])
 once_push [] x new once = ((λ h. contains_none x h), tt)
 once_push {A} (y ∷ ys) x new once =
     ((λ h. once.0 (before ys h)), once_push ys x (λ h. new (contains_more y ys x h)) once.1)

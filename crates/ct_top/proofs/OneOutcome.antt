@@ -18,12 +18,13 @@ use Rattle.ct_settings.specs.Table.{settings_of}
 use Rattle.ct_token.specs.Lexing.{IsTokenization, LeavesOpen}
 use Rattle.ct_yaml.specs.Text.{text_lines, IsFaultLine}
 use Rattle.ct_yaml.proofs.RunLemmas.{one_node}
-use Rattle.ct_top.specs.Form.{HasForm}
-use Rattle.ct_top.specs.Meaning.{FileMeans, log_of, open_comment}
+use Rattle.ct_core.specs.declared.units.CoreUnit.{CoreUnit}
+use Rattle.ct_form.specs.declared.outside.Outside.{Outside}
+use Rattle.ct_form.specs.Form.{HasForm}
+use Rattle.ct_top.specs.Meaning.{FileMeans, answer_of, open_comment}
 use Rattle.ct_top.specs.Project.{FilesMean, HasOutcome, IsSameTest, LongTextMeans, Outcome, ProjectMeans, SearchMeans, SettingsMean, TestsMean, TextMeans, base_name, limit_passed, no_yaml, project_path, same_test, text_at, with_log}
 use Rattle.ct_top.proofs.Members.{contains_first, contains_more, contains_cases, contains_none}
 use Rattle.ct_find.proofs.OneFinding.{one_set}
-use Rattle.ct_top.proofs.Unique.{HasForm-unique}
 
 same_refusal : (r q : Refusal) → ◌≡◌ {A = Result RunLog Refusal} (Err r) (Err q) → r ≡ q
 same_refusal r q e = cc
@@ -95,6 +96,7 @@ none_same paths p f once = name_again f.before f.after p f.again (subst (λ ps. 
 module _ (one : (file : ℕ) (text : List ℕ) (a b : List Token) → IsTokenization file text a → IsTokenization file text b → a ≡ b)
     (one_open : (text : List ℕ) (a b : ℕ) → LeavesOpen text a → LeavesOpen text b → a ≡ b)
     (closed : (file : ℕ) (text : List ℕ) (tokens : List Token) (line : ℕ) → IsTokenization file text tokens → LeavesOpen text line → ⊥)
+    (one_form : (path : List ℕ) (tokens : List Token) (a b : Result CoreUnit Outside) → HasForm path tokens a → HasForm path tokens b → a ≡ b)
     (one_limit : (settings : ProjectSettings) (files : Files) (kind other : LimitKind) (path place : List ℕ)
     → Passes settings files kind path → Passes settings files other place → (kind ≡ other) × (path ≡ place))
     (apart : (settings : ProjectSettings) (files : Files) (kind : LimitKind) (path : List ℕ) → Stays settings files → Passes settings files kind path → ⊥) where
@@ -104,8 +106,8 @@ module _ (one : (file : ℕ) (text : List ℕ) (a b : List Token) → IsTokeniza
   file-unique path text r q (inr f) (inr g) = f.2 ∙ ap (λ line. Err (open_comment path line)) (one_open text f.0 g.0 f.1 g.1) ∙ sym g.2
   file-unique path text r q (inl f) (inl g) =
       let tokens = one 0 text f.0 g.0 f.1 g.1 in
-      let form = HasForm-unique g.0 f.2.0 g.2.0 (subst (λ ts. HasForm ts f.2.0) tokens f.2.1) g.2.1 in
-      f.2.2 ∙ ap (log_of path) form ∙ sym g.2.2
+      let form = one_form path g.0 f.2.0 g.2.0 (subst (λ ts. HasForm path ts f.2.0) tokens f.2.1) g.2.1 in
+      f.2.2 ∙ ap (answer_of path) form ∙ sym g.2.2
 
   files-unique : (files : Files) (paths : List (List ℕ)) (a b : Outcome) → FilesMean files paths a → FilesMean files paths b → a ≡ b
   files-unique files [] a b f g = f ∙ sym g

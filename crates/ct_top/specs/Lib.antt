@@ -1,6 +1,4 @@
 pub mod Words
-pub mod Form
 pub mod Meaning
 pub mod Project
-pub mod Reading
 pub mod Stops

@@ -5,6 +5,7 @@ ghost use Rattle.ct_outside.specs.Files.{Files};
 ghost use Rattle.ct_top.specs.Project.{HasOutcome, Outcome};
 
 use ct_find::one_finding;
+use ct_form::one_form;
 use ct_token::{one_open_comment, one_tokenization};
 
 /// A project has at most one outcome: the one that a clause of `run` names is the only one.
@@ -12,6 +13,7 @@ pub fn one_outcome()
     ensures { (files : Files) (a b : Outcome) → HasOutcome files a → HasOutcome files b → a ≡ b }
 {
     one_finding();
+    one_form();
     one_tokenization();
     one_open_comment();
 }

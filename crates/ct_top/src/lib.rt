@@ -1,14 +1,12 @@
 //! The top call: from the words and the files of a project to the report.
 #![tactic(auto)]
 
-mod form;
-mod items;
+#[cfg(test)]
+mod form_tests;
 mod laws;
 mod names;
-mod numbers;
 mod project;
 mod refusing;
-mod running;
 mod searching;
 mod stops;
 #[cfg(test)]

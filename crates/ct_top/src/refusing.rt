@@ -6,7 +6,8 @@ ghost use Rattle.ct_top.specs.Project as spec;
 
 use crate::names::base_name;
 use crate::project::PROJECT_FILE;
-use ct_base::{Bytes, LimitKind, Mem, Refusal, Text, Token, decimal};
+use ct_base::{Bytes, LimitKind, Mem, Refusal, Text, decimal};
+use ct_form::Outside;
 use ct_settings::{SettingFault, SettingKind};
 use std::alloc::Global;
 
@@ -123,13 +124,13 @@ pub fn open_comment(alloc: Global, path: &str, line: u32) -> Mem<Refusal>
     refuse(alloc, LEX, path, line, b"Lex OpenComment")
 }
 
-/// The refusal of a token that no item of the form reads.
-pub fn unsupported(alloc: Global, path: &str, token: &Token) -> Mem<Refusal>
-    ensures { IfOk result (λ made. made ≡ meaning.unsupported path.now token.now) }
+/// The refusal of what is outside the form, by its first token.
+pub fn unsupported(alloc: Global, path: &str, outside: &Outside) -> Mem<Refusal>
+    ensures { IfOk result (λ made. made ≡ meaning.unsupported path.now outside.now) }
 {
     let mut text = Vec::from_slice(alloc, b"Unsupported ")?;
-    text.extend_from_slice(token.text.as_slice())?;
-    refuse(alloc, UNSUPPORTED, path, token.span.line, text.as_slice())
+    text.extend_from_slice(outside.word.as_slice())?;
+    refuse(alloc, UNSUPPORTED, path, outside.line, text.as_slice())
 }
 
 /// The line `ERROR: FILE:LINE: TEXT`.

@@ -67,7 +67,7 @@ fn compare(
 }
 
 /// Compares the status and the text of `test:all` over an empty project file and `test/test_a.c`.
-fn compare_file(
+pub fn compare_file(
     rt: &(impl Abort + AllocGlobal),
     source: &[u8],
     status: Status,
@@ -458,8 +458,10 @@ OVERALL\n2 Tests 0 Failures 0 Ignored\nOK\n",
         ),
         (
             b"void test_two(void)\n{\n}\n#include \"unity.h\"\n",
-            Status::Refused,
-            b"ERROR: test/test_a.c:1: Unsupported void\n",
+            Status::Passed,
+            b"test/test_a.c:1:test_two:PASS\n\
+-----------------------\n1 Tests 0 Failures 0 Ignored\nOK\n\n\
+OVERALL\n1 Tests 0 Failures 0 Ignored\nOK\n",
         ),
         (
             b"#include \"unity.h\"\nvoid test_two(void){}\nvoid test_two(void){}\n",
@@ -468,8 +470,8 @@ OVERALL\n2 Tests 0 Failures 0 Ignored\nOK\n",
         ),
         (
             b"#include \"unity.h\"\nvoid other(void){}\n",
-            Status::Refused,
-            b"ERROR: test/test_a.c:2: Unsupported void\n",
+            Status::Passed,
+            NO_TESTS_IN_ONE_FILE,
         ),
         (
             b"#include \"unity.h\"\nvoid test_two(void){}}\n",

@@ -1,6 +1,6 @@
 //! From the bytes of test files to their logs.
 
-ghost use Rattle.std.specs.Prelude.{◌≡◌, ◌≤◌, ℕ, List, Some, IfOk, Result, length};
+ghost use Rattle.std.specs.Prelude.{◌≡◌, ◌<◌, ◌≤◌, ◌^◌, All, ℕ, List, Some, IfOk, Result, length};
 ghost use Rattle.std.specs.FinMap.{get};
 ghost use Rattle.ct_base.specs.Answers.{IfFault, OnAnswer};
 ghost use Rattle.ct_base.specs.declared.lexical.Token.{Token as token};
@@ -8,15 +8,18 @@ ghost use Rattle.ct_top.specs.Meaning.{FileMeans, TokensMean};
 ghost use Rattle.ct_find.specs.Limits.{most_file_bytes};
 ghost use Rattle.ct_top.specs.Project.{FilesMean, text_at};
 
-use crate::form::next;
-use crate::items::read_items;
 use crate::refusing::{open_comment, unsupported};
-use crate::running::run_tests;
-use ct_base::{Fail, Items, Out, Refusal, Text, Token};
+use ct_base::{Fail, Out, Refusal, Text, Token};
+use ct_core::CoreFunction;
+use ct_form::read;
+use ct_meaning::test_log;
 use ct_outside::Finder;
 use ct_report::RunLog;
 use ct_token::tokens;
 use std::alloc::Global;
+
+/// The steps that a test may take.
+const STEP_BUDGET: u64 = 1_000_000;
 
 /// The text of a file.
 fn text_at<'a, F: Finder>(finder: &'a F, path: &str) -> &'a [u8]
@@ -53,18 +56,31 @@ fn run_file(alloc: Global, path: &str, text: &[u8]) -> Out<RunLog, Refusal>
     }
 }
 
+/// The number of a line has 32 bits.
+fn has_bits(line: u32)
+    ensures { line < 2 ^ 32 }
+{
+}
+
+/// The lines of functions are numbers of 32 bits.
+fn count_lines(functions: &[CoreFunction])
+    ensures { All (λ f. f.span.line < 2 ^ 32) functions.now }
+{
+    for function in functions {
+        has_bits(function.span.line);
+    }
+}
+
 /// The log of a test file of these tokens, or why it is refused.
 fn run_tokens(alloc: Global, path: &str, tokens: &[Token]) -> Out<RunLog, Refusal>
     ensures { OnAnswer result (TokensMean path.now tokens.now) }
 {
-    let (tests, rest) = read_items(alloc, tokens)?;
-    if let Some((token, _)) = next(rest) {
-        return Err(Fail::Fault(unsupported(alloc, path, token)?));
+    match read(alloc, path, tokens) {
+        Ok(unit) => {
+            count_lines(unit.functions.as_slice());
+            Ok(test_log(alloc, unit, STEP_BUDGET)?)
+        }
+        Err(Fail::OutOfMemory) => Err(Fail::OutOfMemory),
+        Err(Fail::Fault(outside)) => Err(Fail::Fault(unsupported(alloc, path, &outside)?)),
     }
-    let lines = run_tests(alloc, tests.as_slice())?;
-    let file = Text::copy_of(alloc, path)?;
-    Ok(RunLog {
-        file,
-        tests: Items::from_vec(lines),
-    })
 }
