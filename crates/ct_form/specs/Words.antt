@@ -1,5 +1,5 @@
 -- The words of a test file: its tokens without the ends of lines.
-use Rattle.std.specs.Prelude.{◌≡◌, ℕ, ◌&&◌, ◌||◌, Bool, true, false, IsTrue, not, List, [], ◌∷◌, nat_eq, nat_le, ◌≤◌, bytes_eq, Option, Some, None, codes, decimal, if◌then◌else◌}
+use Rattle.std.specs.Prelude.{◌≡◌, ℕ, ◌==◌, ◌&&◌, ◌||◌, Bool, true, false, IsTrue, not, List, [], ◌∷◌, nat_eq, nat_le, ◌≤◌, bytes_eq, Option, Some, None, codes, decimal, if◌then◌else◌}
 use Rattle.std.specs.List.{starts_with, list_any}
 use Rattle.ct_base.specs.declared.lexical.Token.{Token}
 use Rattle.ct_base.specs.declared.lexical.TokenKind.{TokenKind}
@@ -64,11 +64,22 @@ abbrev pub begins_with_letter : List ℕ → Bool
 begins_with_letter [] = false
 begins_with_letter (byte ∷ bytes) = is_letter byte
 
+-- a byte of an identifier (6.4.2.1)
+abbrev pub is_name_byte : ℕ → Bool
+is_name_byte byte = is_letter byte || (byte == 95) || (nat_le 48 byte && nat_le byte 57)
+
+abbrev pub is_other_byte : ℕ → Bool
+is_other_byte byte = not (is_name_byte byte)
+
+-- an identifier that begins with a letter
+abbrev pub is_identifier : List ℕ → Bool
+is_identifier text = begins_with_letter text && not (list_any is_other_byte text)
+
 -- A name that a test file may declare: it begins with a letter, and so with no underscore as those do that are kept for
 -- the compiler; it is no word of C, none of those kept for the assertions and this tool, and not the program's entry.
 abbrev pub is_free_name : List ℕ → Bool
 is_free_name text =
-    begins_with_letter text && not (list_any (bytes_eq text) c_words) && not (begins_with text (codes "TEST_"))
+    is_identifier text && not (list_any (bytes_eq text) c_words) && not (begins_with text (codes "TEST_"))
     && not (begins_with text (codes "ceedling_")) && not (bytes_eq text (codes "main"))
 
 -- a name stands at the front of the tokens, and these follow it

@@ -5,7 +5,7 @@ ghost use Rattle.std.specs.List.{list_any};
 ghost use Rattle.std.specs.Option.{option_map};
 ghost use Rattle.std.specs.Str.{bytes_eq};
 ghost use Rattle.ct_base.specs.declared.lexical.Token.{Token as token};
-ghost use Rattle.ct_form.specs.Words.{Absent, Nothing, IsNumber, Stands, StandsName, StandsNumber, begins_with_letter as letter_first, c_words, first_word, is_free_name as free_name};
+ghost use Rattle.ct_form.specs.Words.{Absent, Nothing, IsNumber, Stands, StandsName, StandsNumber, begins_with_letter as letter_first, c_words, first_word, is_free_name as free_name, is_identifier as identifier, is_letter as letter, is_name_byte as name_byte, is_other_byte as other_byte};
 
 use ct_base::{Mem, Token, TokenKind};
 use std::alloc::{AllocError, AllocFailed, Global};
@@ -107,6 +107,13 @@ pub fn next(tokens: &[Token]) -> Option<(&Token, &[Token])>
     None
 }
 
+/// Whether a byte is a letter (C11 5.2.1).
+fn is_letter(byte: u8) -> bool
+    ensures { result ≡ letter byte }
+{
+    matches!(byte, b'A'..=b'Z' | b'a'..=b'z')
+}
+
 /// What follows a word of this text, where one stands at the front.
 pub fn word<'a>(tokens: &'a [Token], text: &[u8]) -> Result<&'a [Token], Miss>
     ensures found { IfOk result (λ rest. Stands text.now tokens.now rest.now) }
@@ -134,16 +141,37 @@ fn begins_with_letter(text: &[u8]) -> bool
     ensures { result ≡ letter_first text.now }
 {
     match text.first() {
-        Some(byte) => matches!(byte, b'A'..=b'Z' | b'a'..=b'z'),
+        Some(byte) => is_letter(*byte),
         None => false,
     }
+}
+
+/// Whether a byte may stand in an identifier (C11 6.4.2.1).
+fn is_name_byte(byte: u8) -> bool
+    ensures { result ≡ name_byte byte }
+{
+    is_letter(byte) || byte == b'_' || matches!(byte, b'0'..=b'9')
+}
+
+/// Whether a text has a byte that stands in no identifier.
+fn has_other_byte(text: &[u8]) -> bool
+    ensures { result ≡ list_any other_byte text.now }
+{
+    text.iter().any(|byte| !is_name_byte(*byte))
+}
+
+/// Whether a text is an identifier that begins with a letter.
+fn is_identifier(text: &[u8]) -> bool
+    ensures { result ≡ identifier text.now }
+{
+    begins_with_letter(text) && !has_other_byte(text)
 }
 
 /// Whether a test file may declare this name.
 fn is_free_name(text: &[u8]) -> bool
     ensures { result ≡ free_name text.now }
 {
-    begins_with_letter(text)
+    is_identifier(text)
         && !is_c_word(text)
         && !text.starts_with(b"TEST_")
         && !text.starts_with(b"ceedling_")

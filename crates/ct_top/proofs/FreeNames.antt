@@ -1,31 +1,34 @@
 -- What holds of a name that a test file may declare.
 use Rattle.std.proofs.Common.{◌≡◌, ◌≢◌, ℕ, ◌+◌, Bool, true, false, List, [], ◌∷◌, ◌++◌, refl, sym, ap, ◌∙◌, nat_eq, length}
-use Rattle.std.specs.Prelude.{All, bytes_eq, codes, not, take}
-use Rattle.std.specs.List.{starts_with, list_all, list_any}
+use Rattle.std.specs.Prelude.{◌||◌, All, bytes_eq, codes, not, take}
+use Rattle.std.specs.List.{starts_with, list_any}
 use Rattle.std.specs.Cmp.Lexicographic.{pointwise}
-use Rattle.std.proofs.lemmas.Bool.{and_parts, and_from, not-true, true≢false}
+use Rattle.std.proofs.lemmas.Bool.{and_parts, and_from, not-true, not-false, true≢false}
 use Rattle.std.proofs.lemmas.List.Elements.{All-cons, All-nil}
-use Rattle.ct_form.specs.Words.{begins_with, begins_with_letter, c_words, is_free_name, is_name_byte}
+use Rattle.ct_form.specs.Words.{begins_with, begins_with_letter, c_words, is_free_name, is_name_byte, is_other_byte}
 
 -- what each part of the definition says
 pub free_parts : (text : List ℕ) → is_free_name text ≡ true
-    → (list_all is_name_byte text ≡ true) × (starts_with nat_eq text (codes "ceedling_") ≡ false) × (bytes_eq text (codes "main") ≡ false)
+    → (list_any is_other_byte text ≡ false) × (starts_with nat_eq text (codes "ceedling_") ≡ false) × (bytes_eq text (codes "main") ≡ false)
 free_parts text e =
     let last = and_parts _ _ e in
     let tool = and_parts _ _ last.0 in
     let unity = and_parts _ _ tool.0 in
-    let words = and_parts _ _ unity.0 in
-    let bytes = and_parts _ _ words.0 in
-    (bytes.1, not-true _ tool.1, not-true _ last.1)
+    let bytes = (and_parts _ _ unity.0).0 in
+    (not-true _ (and_parts _ _ bytes).1, not-true _ tool.1, not-true _ last.1)
 
 not_zero : (byte : ℕ) → is_name_byte byte ≡ true → byte ≢ 0
 not_zero byte e zero = true≢false (sym e ∙ ap is_name_byte zero)
 
-pub whole_name : (text : List ℕ) → list_all is_name_byte text ≡ true → All (λ (byte : ℕ). byte ≢ 0) text
+neither : (x y : Bool) → (x || y) ≡ false → (x ≡ false) × (y ≡ false)
+neither true y e = absurd (true≢false e)
+neither false y e = (refl, e)
+
+pub whole_name : (text : List ℕ) → list_any is_other_byte text ≡ false → All (λ (byte : ℕ). byte ≢ 0) text
 whole_name [] e = All-nil (λ (byte : ℕ). byte ≢ 0)
 whole_name (byte ∷ bytes) e =
-    let parts = and_parts (is_name_byte byte) (list_all is_name_byte bytes) e in
-    All-cons (λ (b : ℕ). b ≢ 0) byte bytes (not_zero byte parts.0) (whole_name bytes parts.1)
+    let parts = neither (is_other_byte byte) (list_any is_other_byte bytes) e in
+    All-cons (λ (b : ℕ). b ≢ 0) byte bytes (not_zero byte (not-false (is_name_byte byte) parts.0)) (whole_name bytes parts.1)
 
 -- what begins with more begins with its front
 begins_less : (xs ys text : List ℕ) → starts_with nat_eq text (xs ++ ys) ≡ true → starts_with nat_eq text xs ≡ true
