@@ -152,9 +152,13 @@ module _ (signatures : List Signature) (unity gives_value : Bool) where
             (r.forth _ _ ending (declared_forth w here (IsBody-at signatures unity gives_value (sym d) refl b)));
         back = λ n c ending b.
             let p = r.back n c ending b in
-            let q = declared_back w here p.4 in
-            (q.later, q.parts, one_more numbers n p.0 number p.2 q.later (q.n_is ∙ ap (λ x. x ∷ q.later) (sym k)),
-              one_more parts c p.1 core p.3 q.parts q.c_is, IsBody-at signatures unity gives_value d refl q.body);
+            let q = declared_back w here p.4 in (
+              q.later,
+              q.parts,
+              one_more numbers n p.0 number p.2 q.later (q.n_is ∙ ap (λ x. x ∷ q.later) (sym k)),
+              one_more parts c p.1 core p.3 q.parts q.c_is,
+              IsBody-at signatures unity gives_value d refl q.body,
+            );
       }
 
   whole_scope : {outer : ℕ} {first : List Binding} {start : At} {room : ℕ} {numbers : List ℕ} {parts : List CoreStatement} {scope : List Binding} {at : At}

@@ -52,12 +52,24 @@ module _ (signatures : List Signature) (unity gives_value : Bool) where
   choice_parts {scope = scope} w (assignment v' e' k' x' z') = absurd (no_name w v' refl)
   choice_parts {scope = scope} w (call c' z') = absurd (call_or_word signatures scope c' w refl)
   choice_parts {scope = scope} w (only w' p' q' s' a') = record {
-    has_room = p'; test = _; inside = _; is_test = IsTest-at signatures scope (one_rest w w') q';
-    yes = _; middle = _; is_yes = s'; other = λ others o. absurd (a' _ o)
+    has_room = p';
+    test = _;
+    inside = _;
+    is_test = IsTest-at signatures scope (one_rest w w') q';
+    yes = _;
+    middle = _;
+    is_yes = s';
+    other = λ others o. absurd (a' _ o);
   }
   choice_parts {scope = scope} w (either {middle = m} w' p' q' s' o' d') = record {
-    has_room = p'; test = _; inside = _; is_test = IsTest-at signatures scope (one_rest w w') q';
-    yes = _; middle = _; is_yes = s'; other = λ others o. (_, _, IsStatement-at signatures unity gives_value (ap (moved m) (one_rest o o')) d')
+    has_room = p';
+    test = _;
+    inside = _;
+    is_test = IsTest-at signatures scope (one_rest w w') q';
+    yes = _;
+    middle = _;
+    is_yes = s';
+    other = λ others o. (_, _, IsStatement-at signatures unity gives_value (ap (moved m) (one_rest o o')) d');
   }
   choice_parts {scope = scope} w (while w' p' q' s') = absurd (not_both w w' refl)
   choice_parts {scope = scope} w (returned w' g' x' z') = absurd (not_both w w' refl)
@@ -138,11 +150,16 @@ module _ (signatures : List Signature) (unity gives_value : Bool) where
       → StandsName at.tokens name middle → Stands (codes "=") middle behind → IsStatement signatures unity gives_value room scope at core after
       → AssignmentParts scope name behind
   assignment_parts {scope = scope} v e (block w' p' b') = absurd (no_name w' v refl)
-  assignment_parts {scope = scope} v e (assignment v' e' k' x' z') = 
+  assignment_parts {scope = scope} v e (assignment v' e' k' x' z') =
       let n = one_name v v' in
       record {
-        number = _; number_is = ap (λ (t : Token). number_of scope t.text) n.0 ∙ k'; value = _; ending = _; rest = _;
-        is_value = IsExpression-at signatures scope (one_rest e (Stands-at signatures scope n.1 e')) x'; closed = z'
+        number = _;
+        number_is = ap (λ (t : Token). number_of scope t.text) n.0 ∙ k';
+        value = _;
+        ending = _;
+        rest = _;
+        is_value = IsExpression-at signatures scope (one_rest e (Stands-at signatures scope n.1 e')) x';
+        closed = z';
       }
   assignment_parts {scope = scope} v e (call c' z') = absurd (call_or_assignment signatures scope c' v e)
   assignment_parts {scope = scope} v e (only w' p' q' s' a') = absurd (no_name w' v refl)

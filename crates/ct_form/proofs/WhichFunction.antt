@@ -107,41 +107,46 @@ pub no_function_definition : {signatures : List Signature} {unity : Bool} {seria
 no_function_definition {signatures = signatures} i e p n what rest h =
     let o = one_heading i (heading_of h.1) in
     let q = one_parameter_list p (IsParameterList-in e (IsParameterList-of o.3 h.1.is_parameter_list)) in
-    n what rest
-    (IsDefinition-of o.0 o.1 o.2 q.0 q.1 (definition_of h.1),
-      h.2 ∙ ap (λ (s : Signature). signatures ++ s ∷ []) (h.1.signature_is ∙ sym (same_signature o.2 o.1 q.0)))
+    n what rest (
+      IsDefinition-of o.0 o.1 o.2 q.0 q.1 (definition_of h.1),
+      h.2 ∙ ap (λ (s : Signature). signatures ++ s ∷ []) (h.1.signature_is ∙ sym (same_signature o.2 o.1 q.0)),
+    )
 
 pub is_function : {signatures new : List Signature} {unity : Bool} {serial next : ℕ} {t first rest : List Token} {l : Linkage} {v : Bool} {name : Token} {own : List Binding} {at heading : At} {f : CoreFunction}
     → IsHeading t l v name first → at ≡ first_place serial first → IsParameterList at own heading
     → DefinitionThere signatures unity l v name own heading (f, new, next) rest → FunctionThere signatures unity serial t (f, new, next) rest
-is_function {first = first} {l = l} {v = v} {name = name} {own = own} {heading = heading} i e p d = (signature_of name v own, record {
-  linkage = l;
-  kind_at = i.kind_at;
-  is_linkage = i.is_linkage;
-  gives_value = v;
-  name_at = i.name_at;
-  is_result = i.is_result;
-  name = name;
-  open_at = i.open_at;
-  is_name = i.is_name;
-  first_at = first;
-  opened = i.opened;
-  own = own;
-  heading = heading;
-  is_parameter_list = IsParameterList-in (sym e) p;
-  signature_is = refl;
-  is_new = d.0.is_new;
-  allowed = d.0.allowed;
-  inside = d.0.inside;
-  braced = d.0.braced;
-  numbers = d.0.numbers;
-  parts = d.0.parts;
-  ending = d.0.ending;
-  body = d.0.body;
-  function_is = d.0.function_is;
-  next_is = d.0.next_is;
-  rest_is = d.0.rest_is;
-}, d.1)
+is_function {first = first} {l = l} {v = v} {name = name} {own = own} {heading = heading} i e p d = (
+  signature_of name v own,
+  record {
+    linkage = l;
+    kind_at = i.kind_at;
+    is_linkage = i.is_linkage;
+    gives_value = v;
+    name_at = i.name_at;
+    is_result = i.is_result;
+    name = name;
+    open_at = i.open_at;
+    is_name = i.is_name;
+    first_at = first;
+    opened = i.opened;
+    own = own;
+    heading = heading;
+    is_parameter_list = IsParameterList-in (sym e) p;
+    signature_is = refl;
+    is_new = d.0.is_new;
+    allowed = d.0.allowed;
+    inside = d.0.inside;
+    braced = d.0.braced;
+    numbers = d.0.numbers;
+    parts = d.0.parts;
+    ending = d.0.ending;
+    body = d.0.body;
+    function_is = d.0.function_is;
+    next_is = d.0.next_is;
+    rest_is = d.0.rest_is;
+  },
+  d.1,
+)
 
 -- what stands behind the parameters
 IsBody-of : {signatures signatures' : List Signature} {unity v : Bool} {room : ℕ} {base base' own own' : List Binding} {at at' after : At} {n : List ℕ} {c : List CoreStatement}

@@ -130,12 +130,7 @@ fn is_allowed(signature: &Signature) -> bool
 }
 
 /// The signature of a function with so many parameters.
-fn signature_of(
-    alloc: Global,
-    name: &Token,
-    gives_value: bool,
-    scope: &[Binding],
-) -> Mem<Signature>
+fn signature_of(alloc: Global, name: &Token, gives_value: bool, scope: &[Binding]) -> Mem<Signature>
     requires { length scope.now ≤ 128 }
     ensures { IfOk result (λ signature. signature ≡ signature_for name.now gives_value scope.now) }
 {

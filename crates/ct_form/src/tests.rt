@@ -108,24 +108,60 @@ fn files_of_the_form_are_read(rt: HostRuntime) -> Result<(), TestFail> {
         (b"void f ( void ) { { } { { } } }", 1),
         (b"int f ( void ) { }", 1),
         (b"int f ( int a ) { { int a = 1 ; } return a ; }", 1),
-        (b"int f ( int a ) { { int a = a ; a = 2 ; } { int a ; } return a ; }", 1),
+        (
+            b"int f ( int a ) { { int a = a ; a = 2 ; } { int a ; } return a ; }",
+            1,
+        ),
         (b"int f ( void ) { int x = x ; return x ; }", 1),
-        (b"int f ( int a ) { a = 1 ; int b = a ; while ( b < 9 ) { int c = b ; b = c + 1 ; } return b ; }", 1),
-        (b"int f ( int a ) { if ( a ) if ( a < 1 ) return 1 ; else return 2 ; return 3 ; }", 1),
+        (
+            b"int f ( int a ) { a = 1 ; int b = a ; while ( b < 9 ) { int c = b ; b = c + 1 ; } return b ; }",
+            1,
+        ),
+        (
+            b"int f ( int a ) { if ( a ) if ( a < 1 ) return 1 ; else return 2 ; return 3 ; }",
+            1,
+        ),
         (b"int f ( void ) { return 0 - 2147483647 - 1 ; }", 1),
-        (b"int f ( void ) { return ( ( 1 < 2 ) < 3 ) + 4 - ( 5 - 6 ) ; }", 1),
+        (
+            b"int f ( void ) { return ( ( 1 < 2 ) < 3 ) + 4 - ( 5 - 6 ) ; }",
+            1,
+        ),
         // A call may stand alone, whatever it gives.
-        (b"int g ( void ) { return 1 ; } void h ( void ) { g ( ) ; } void f ( void ) { g ( ) ; h ( ) ; }", 3),
-        (b"int g ( int a , int b ) { return a ; } int f ( void ) { return g ( g ( 1 , 2 ) , ( 3 ) ) ; }", 2),
+        (
+            b"int g ( void ) { return 1 ; } void h ( void ) { g ( ) ; } void f ( void ) { g ( ) ; h ( ) ; }",
+            3,
+        ),
+        (
+            b"int g ( int a , int b ) { return a ; } int f ( void ) { return g ( g ( 1 , 2 ) , ( 3 ) ) ; }",
+            2,
+        ),
         // A variable hides a function of its name where it is in scope.
-        (b"int g ( void ) { return 1 ; } int f ( void ) { { int g = 2 ; g = 3 ; } return g ( ) ; }", 2),
+        (
+            b"int g ( void ) { return 1 ; } int f ( void ) { { int g = 2 ; g = 3 ; } return g ( ) ; }",
+            2,
+        ),
         (b"int f ( int f ) { return f ; }", 1),
-        (b"static void setUp ( void ) { } void tearDown ( void ) { }", 2),
-        (b"void test_ ( void ) { } void spec ( void ) { } void should1 ( void ) { } void x_Y9 ( void ) { }", 4),
-        (b"void mainly ( void ) { } void TESTS ( void ) { } void ceedling ( void ) { } void Int ( void ) { }", 4),
-        (b"void f ( int a ) { if ( a ) { } else { } while ( a ) { } }", 1),
+        (
+            b"static void setUp ( void ) { } void tearDown ( void ) { }",
+            2,
+        ),
+        (
+            b"void test_ ( void ) { } void spec ( void ) { } void should1 ( void ) { } void x_Y9 ( void ) { }",
+            4,
+        ),
+        (
+            b"void mainly ( void ) { } void TESTS ( void ) { } void ceedling ( void ) { } void Int ( void ) { }",
+            4,
+        ),
+        (
+            b"void f ( int a ) { if ( a ) { } else { } while ( a ) { } }",
+            1,
+        ),
         (b"void f ( int a ) { int b ; int c = a ; b = a ; }", 1),
-        (b"int f ( int a ) { return a < a + 1 ; } $ # include \"unity.h\" $ $ int g ( void ) { return f ( 1 ) ; }", 2),
+        (
+            b"int f ( int a ) { return a < a + 1 ; } $ # include \"unity.h\" $ $ int g ( void ) { return f ( 1 ) ; }",
+            2,
+        ),
     ];
     for (text, count) in rows {
         accepted(&rt, text, count)?;
@@ -175,31 +211,79 @@ fn files_outside_the_form_are_refused_at_their_first_token_outside(
         (b"void f ( int sizeof ) { }", 1, b"void"),
         (b"void f ( void ) { int else ; }", 1, b"void"),
         // Functions that may not be declared.
-        (b"void g ( void ) { } $ $ static int g ( int a ) { return a ; }", 3, b"static"),
+        (
+            b"void g ( void ) { } $ $ static int g ( int a ) { return a ; }",
+            3,
+            b"static",
+        ),
         (b"int setUp ( void ) { return 0 ; }", 1, b"int"),
         (b"void setUp ( int a ) { }", 1, b"void"),
         (b"int tearDown ( void ) { return 0 ; }", 1, b"int"),
         (b"$ static void tearDown ( int a ) { }", 2, b"static"),
         // Variables.
-        (b"void g ( void ) { } $ int f ( void ) { return x ; }", 2, b"int"),
+        (
+            b"void g ( void ) { } $ int f ( void ) { return x ; }",
+            2,
+            b"int",
+        ),
         (b"int f ( void ) { x = 1 ; }", 1, b"int"),
         (b"int f ( void ) { { int x = 1 ; } return x ; }", 1, b"int"),
         (b"int f ( void ) { return x ; int x ; }", 1, b"int"),
         (b"int f ( int a ) { int a ; return a ; }", 1, b"int"),
         (b"int f ( void ) { int a ; int a ; return a ; }", 1, b"int"),
         (b"int f ( void ) { int a , b ; return a ; }", 1, b"int"),
-        (b"int f ( int a ) { if ( a ) int b ; return a ; }", 1, b"int"),
+        (
+            b"int f ( int a ) { if ( a ) int b ; return a ; }",
+            1,
+            b"int",
+        ),
         // Calls.
-        (b"int f ( void ) { return g ( ) ; } int g ( void ) { return 1 ; }", 1, b"int"),
-        (b"int g ( int a ) { return a ; } $ int f ( void ) { return g ( 1 , 2 ) ; }", 2, b"int"),
-        (b"int g ( int a ) { return a ; } $ int f ( void ) { return g ( ) ; }", 2, b"int"),
-        (b"void g ( int a ) { } $ void f ( void ) { g ( ) ; }", 2, b"void"),
-        (b"void g ( int a , int b ) { } $ void f ( void ) { g ( 1 , ) ; }", 2, b"void"),
-        (b"void g ( void ) { } $ int f ( void ) { return g ( ) ; }", 2, b"int"),
-        (b"void g ( void ) { } $ void f ( int a ) { a = 1 + g ( ) ; }", 2, b"void"),
-        (b"void g ( void ) { } $ void f ( int a ) { while ( g ( ) ) { } }", 2, b"void"),
+        (
+            b"int f ( void ) { return g ( ) ; } int g ( void ) { return 1 ; }",
+            1,
+            b"int",
+        ),
+        (
+            b"int g ( int a ) { return a ; } $ int f ( void ) { return g ( 1 , 2 ) ; }",
+            2,
+            b"int",
+        ),
+        (
+            b"int g ( int a ) { return a ; } $ int f ( void ) { return g ( ) ; }",
+            2,
+            b"int",
+        ),
+        (
+            b"void g ( int a ) { } $ void f ( void ) { g ( ) ; }",
+            2,
+            b"void",
+        ),
+        (
+            b"void g ( int a , int b ) { } $ void f ( void ) { g ( 1 , ) ; }",
+            2,
+            b"void",
+        ),
+        (
+            b"void g ( void ) { } $ int f ( void ) { return g ( ) ; }",
+            2,
+            b"int",
+        ),
+        (
+            b"void g ( void ) { } $ void f ( int a ) { a = 1 + g ( ) ; }",
+            2,
+            b"void",
+        ),
+        (
+            b"void g ( void ) { } $ void f ( int a ) { while ( g ( ) ) { } }",
+            2,
+            b"void",
+        ),
         (b"int f ( int a ) { return a ( ) ; }", 1, b"int"),
-        (b"int g ( void ) { return 1 ; } $ int f ( int g ) { return g ( ) ; }", 2, b"int"),
+        (
+            b"int g ( void ) { return 1 ; } $ int f ( int g ) { return g ( ) ; }",
+            2,
+            b"int",
+        ),
         (b"int f ( void ) { return f ; }", 1, b"int"),
         // Statements.
         (b"void f ( void ) { return 1 ; }", 1, b"void"),
@@ -220,9 +304,21 @@ fn files_outside_the_form_are_refused_at_their_first_token_outside(
         (b"int f ( void ) { return 2147483648 ; }", 1, b"int"),
         (b"int f ( void ) { return 01 ; }", 1, b"int"),
         // The assertion is no name before the include that declares it.
-        (b"void test_d ( void ) { TEST_ASSERT_EQUAL_INT ( 0 , 1 ) ; }", 1, b"void"),
-        (b"# include \"unity.h\" $ void test_d ( void ) { TEST_ASSERT_EQUAL_INT ( 0 ) ; }", 2, b"void"),
-        (b"# include \"unity.h\" $ void test_d ( void ) { TEST_ASSERT_EQUAL_INT ( 0 , 1 , 2 ) ; }", 2, b"void"),
+        (
+            b"void test_d ( void ) { TEST_ASSERT_EQUAL_INT ( 0 , 1 ) ; }",
+            1,
+            b"void",
+        ),
+        (
+            b"# include \"unity.h\" $ void test_d ( void ) { TEST_ASSERT_EQUAL_INT ( 0 ) ; }",
+            2,
+            b"void",
+        ),
+        (
+            b"# include \"unity.h\" $ void test_d ( void ) { TEST_ASSERT_EQUAL_INT ( 0 , 1 , 2 ) ; }",
+            2,
+            b"void",
+        ),
     ];
     for (text, line, word) in rows {
         refused(&rt, text, line, word)?;
@@ -252,12 +348,39 @@ fn repeated(
 #[test]
 fn files_are_read_up_to_each_limit_and_refused_behind_it(rt: HostRuntime) -> Result<(), TestFail> {
     let rows: [([&[u8]; 5], usize); 6] = [
-        ([b"int f ( void ) { return ", b"( ", b"1 ", b") ", b"; }"], 64),
-        ([b"int f ( int a ) { if ( ", b"( ", b"a ", b") ", b") return 1 ; }"], 63),
-        ([b"int f ( int a ) { return ", b"f ( ", b"a ", b") ", b"; }"], 64),
+        (
+            [b"int f ( void ) { return ", b"( ", b"1 ", b") ", b"; }"],
+            64,
+        ),
+        (
+            [
+                b"int f ( int a ) { if ( ",
+                b"( ",
+                b"a ",
+                b") ",
+                b") return 1 ; }",
+            ],
+            63,
+        ),
+        (
+            [b"int f ( int a ) { return ", b"f ( ", b"a ", b") ", b"; }"],
+            64,
+        ),
         ([b"int f ( int a ) ", b"{ ", b"return a ; ", b"} ", b""], 32),
-        ([b"int f ( int a ) { ", b"if ( a ) ", b"a = 1 ; ", b"", b"}"], 31),
-        ([b"int f ( int a ) { ", b"while ( a ) ", b"a = 1 ; ", b"", b"}"], 31),
+        (
+            [b"int f ( int a ) { ", b"if ( a ) ", b"a = 1 ; ", b"", b"}"],
+            31,
+        ),
+        (
+            [
+                b"int f ( int a ) { ",
+                b"while ( a ) ",
+                b"a = 1 ; ",
+                b"",
+                b"}",
+            ],
+            31,
+        ),
     ];
     for (parts, most) in rows {
         accepted(&rt, repeated(&rt, parts, most)?.as_slice(), 1)?;

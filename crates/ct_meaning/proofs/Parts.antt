@@ -274,11 +274,12 @@ module _ (w : World) (L : ℕ → Type 0) (G : (A : Type 0) → Does A → Does 
           (λ inner. initialise_parameters w inner 0 xs >> statement w n g function.body inner)
           (λ k j. rules.bind (Unit {0}) Ending _ _ _ _ (parameters_hold k 0 xs) (λ _. statement_holds function.body k j))
 
-      row_holds : (row : Row) → G Ending (row_body row) (row_body row)
-      row_holds Empty = onward
+      row_holds : (h : Where) (row : Row) (xs : List Value) → G Ending (row_body w h row xs) (row_body w h row xs)
+      row_holds h Empty [] = onward
+      row_holds h Empty (x ∷ xs) = rules.stops Ending h BadCall
 
       pub body_holds : (t : Option Target) (xs : List Value) (h : Where) → L h.level → G Ending (body_of w n f t xs h) (body_of w n g t xs h)
       body_holds (Some (Defined unit place function)) xs h l = function_holds unit place function xs h l
-      body_holds (Some (Outside row)) xs h l = row_holds row
+      body_holds (Some (Outside row)) xs h l = row_holds h row xs
       body_holds (Some (Given i)) xs h l = onward
       body_holds None xs h l = onward

@@ -103,10 +103,10 @@ one_more before tokens rest f signature next (Ok functions) stands read =
       are = All-cons IsNamed f functions (function_named before.signatures before.unity before.serial next tokens rest f signature is) read.are;
       few = λ at_most. let l = length_push before.signatures signature in let r = read.few (omega (arith, l, stands.0)) in omega (arith, l, r);
       once = λ once. subst EachOnce
-        (ap (λ names. names ++ named functions) (signed_push before.signatures signature)
-        ∙ moved (signed before.signatures) (named functions) signature.name
-        ∙ ap (λ n. signed before.signatures ++ n ∷ named functions) name)
-        (read.once (subst EachOnce (sym (signed_push before.signatures signature)) (once_push (signed before.signatures) signature.name new once)));
+          (ap (λ names. names ++ named functions) (signed_push before.signatures signature)
+          ∙ moved (signed before.signatures) (named functions) signature.name
+          ∙ ap (λ n. signed before.signatures ++ n ∷ named functions) name)
+          (read.once (subst EachOnce (sym (signed_push before.signatures signature)) (once_push (signed before.signatures) signature.name new once)));
     }
 
 all_read : (before : Before) (tokens : List Token) (outcome : Result (List CoreFunction) Token) → Reads before tokens outcome → IfRead before outcome

@@ -59,8 +59,7 @@ fn run_file(alloc: Global, path: &str, text: &[u8]) -> Out<RunLog, Refusal>
 /// The number of a line has 32 bits.
 fn has_bits(line: u32)
     ensures { line < 2 ^ 32 }
-{
-}
+{}
 
 /// The lines of functions are numbers of 32 bits.
 fn count_lines(functions: &[CoreFunction])

@@ -32,5 +32,5 @@ loop-after-preserved c =
 pub returns-in-Err-Elsewhere : goal.returns-in-Err-Elsewhere
 returns-in-Err-Elsewhere c =
     let n = elsewhere (λ (x : CoreFunction × ℕ × Bor (List Token)). (x.0, c.function.new.signatures.items, x.1)) (λ x. x.2.now)
-        (FunctionThere c.loop-after.signatures.items c.loop-after.unity c.loop-after.serial c.loop-after.rest.now) c.in-Err-Elsewhere.field-0 c.in-Err-Elsewhere.field-0-is c.in-Err-Elsewhere.ensures in
+    (FunctionThere c.loop-after.signatures.items c.loop-after.unity c.loop-after.serial c.loop-after.rest.now) c.in-Err-Elsewhere.field-0 c.in-Err-Elsewhere.field-0-is c.in-Err-Elsewhere.ensures in
     ((before_of c.loop-after.is_first c.loop-after.unity c.loop-after.signatures.items c.loop-after.serial), c.loop-after.invariant.read, no_item c.in_default.ensures.none n)

@@ -45,7 +45,8 @@ returns-clause-declaration c =
     let new = in_two c.args.outer c.args.scope.now.items (binding (at_of c.args.place) c.in_ok-name.name.now) e in
     let seen : c.as_slice-2.result.now ≡ c.push.new.self.items = search rules in
     let d : is_declared (drop c.args.outer c.args.scope.now.items) c.in_ok-name.name.now.text ≡ false = grind (arith, common_steps) in
-    let l : length c.args.place.variables < most_variables = omega arith in
-    (c.in_ok-name.name.now,
+    let l : length c.args.place.variables < most_variables = omega arith in (
+      c.in_ok-name.name.now,
       is_declaration c.args.self.now.functions.now (take c.args.outer c.args.scope.now.items) (drop c.args.outer c.args.scope.now.items) c.in_ok-name.ensures.found d l (seen ∙ new) c.in_ok-start.ensures c.in_ok-rest.ensures.found c.mark-mark.ensures c.len-number.ensures (c.in_ok-place.ensures ∙ ap (λ (at : At). declared at c.in_ok-name.name.now) c.in_ok-begun.ensures),
-      new)
+      new,
+    )
