@@ -314,7 +314,7 @@ fn long(alloc: Global, front: &str, piece: &str, times: u32, end: &str) -> Mem<V
     Ok(text)
 }
 
-/// Each text has about 1 MiB, so that a test that looks again and again at what was read does not end.
+/// Each text has about 1 MiB: a reader that looks again and again at what it read does not end.
 #[test]
 fn long_texts_and_lines(rt: HostRuntime) -> Result<(), TestFail> {
     let rows = [
