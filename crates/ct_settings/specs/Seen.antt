@@ -1,4 +1,4 @@
--- Names that were seen.
+-- Names that were seen. No public clause speaks of them.
 use Rattle.std.specs.Prelude.{ℕ, Bool, List}
 use Rattle.std.specs.List.{list_any}
 use Rattle.std.specs.Str.{bytes_eq}

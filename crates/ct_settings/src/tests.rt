@@ -473,6 +473,17 @@ fn the_section_cmock(rt: HostRuntime) -> Result<(), TestFail> {
             "",
             ":cmock: :plugins: NotList",
         ),
+    ];
+    for (text, part, wanted) in rows {
+        let shown = outcome(rt.alloc(), text.as_bytes(), part)?;
+        assert_eq!(rt; shown.as_slice(), wanted.as_bytes(), "{text:?}");
+    }
+    Ok(())
+}
+
+#[test]
+fn truth_values_and_pointers_of_mocks(rt: HostRuntime) -> Result<(), TestFail> {
+    let rows = [
         (
             ":cmock:\n  :enforce_strict_ordering: FALSE",
             "strict",
@@ -548,6 +559,17 @@ fn the_section_cmock(rt: HostRuntime) -> Result<(), TestFail> {
             "",
             ":cmock: :callback_include_count: NotBool",
         ),
+    ];
+    for (text, part, wanted) in rows {
+        let shown = outcome(rt.alloc(), text.as_bytes(), part)?;
+        assert_eq!(rt; shown.as_slice(), wanted.as_bytes(), "{text:?}");
+    }
+    Ok(())
+}
+
+#[test]
+fn refusals_in_the_order_of_the_table(rt: HostRuntime) -> Result<(), TestFail> {
+    let rows = [
         (
             ":cmock:\n  :callback_include_count: 1\n  :when_ptr: 1",
             "",

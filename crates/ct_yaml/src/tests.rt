@@ -314,7 +314,7 @@ fn long(alloc: Global, front: &str, piece: &str, times: u32, end: &str) -> Mem<V
     Ok(text)
 }
 
-/// Each text has at least 1 MiB, and is read in a time that grows as its length.
+/// Each text has about 1 MiB: a reader that looks again and again at what it read does not end.
 #[test]
 fn long_texts_and_lines(rt: HostRuntime) -> Result<(), TestFail> {
     let rows = [
