@@ -67,7 +67,7 @@ byte_cells b lt =
 
 put_byte : (space : Space) (place b : ℕ) (front rest : List Cell) (m : Memory) → b < 256
     → initialise_result (record { space = space; number = length (objects_in space m); offset = length front }) (Int UnsignedChar) (value.Int (pos b)) (with_new space (held place (front ++ Nothing ∷ rest)) m)
-      ≡ Ok (with_new space (held place (front ++ Byte b ∷ rest)) m)
+    ≡ Ok (with_new space (held place (front ++ Byte b ∷ rest)) m)
 unfolding initialise_result
 put_byte space place b front rest m small =
     let at : Pointer = record { space = space; number = length (objects_in space m); offset = length front } in
@@ -109,7 +109,7 @@ zero_end (b ∷ bytes) (suc i) = zero_end bytes i
 -- one byte more
 pub stored_more : (space : Space) (place i : ℕ) (bytes : List ℕ) (m : Memory) → i < length bytes + 1 → get_or bytes i 0 < 256
     → initialise_result (record { space = space; number = length (objects_in space m); offset = i }) (Int UnsignedChar) (value.Int (pos (get_or bytes i 0))) (with_new space (stored_object place bytes i) m)
-      ≡ Ok (with_new space (stored_object place bytes (i + 1)) m)
+    ≡ Ok (with_new space (stored_object place bytes (i + 1)) m)
 stored_more space place i bytes m lt small =
     let all : List ℕ = bytes ++ 0 ∷ [] in
     let b : ℕ = get_or bytes i 0 in

@@ -44,12 +44,7 @@ impl<
 > Evaluator<'a, F> {
     /// The value of an expression.
     #[cycle(expression)]
-    fn expression(
-        &self,
-        state: &mut State,
-        h: Where<'_>,
-        e: &CoreExpression,
-    ) -> Result<Value, Stop>
+    fn expression(&self, state: &mut State, h: Where<'_>, e: &CoreExpression) -> Result<Value, Stop>
         requires { DoesCalls self.now.program self.now.fuel (F.pre self.now.call) (F.post self.now.call) }
         ensures { Gives (spec.expression (world_of self.now.program) (calls (world_of self.now.program) self.now.fuel) e.now (where_of h.entry) state.old) result state.new }
     {
@@ -405,9 +400,7 @@ impl<
         };
         let outer = Where { at, frame: &[] };
         let places = self.program.places(function.parameters)?;
-        let frame = self
-            .program
-            .begin_objects(state, outer, places.as_slice())?;
+        let frame = self.program.begin_objects(state, outer, places.as_slice())?;
         let inner = Where {
             at,
             frame: frame.as_slice(),

@@ -26,10 +26,10 @@ loop-offset-preserved c =
     let within : c.loop-offset.offset < length c.args.text.now + 1 = omega arith in
     let fits : SFits w128 c.from.result = search rules in
     let given = ap (λ (z : ℤ). initialise_result (record c.in_ok-at.at { offset = i }) (Int UnsignedChar) (value.Int z) c.loop-offset.memory) (to_z-of_z w128 c.from.result fits)
-      ∙ ap (λ (p : Pointer). initialise_result (record p { offset = i }) (Int UnsignedChar) (value.Int c.from.result) c.loop-offset.memory) c.in_ok-at.ensures.pointer
-      ∙ ap (λ (z : ℤ). initialise_result (record (next_pointer c.args.space m) { offset = i }) (Int UnsignedChar) (value.Int z) c.loop-offset.memory) z
-      ∙ ap (λ (before : Memory). initialise_result (record (next_pointer c.args.space m) { offset = i }) (Int UnsignedChar) (value.Int (pos (get_or bytes i 0))) before) c.loop-offset.invariant
-      ∙ stored_more c.args.space c.args.place i bytes m within small in
+    ∙ ap (λ (p : Pointer). initialise_result (record p { offset = i }) (Int UnsignedChar) (value.Int c.from.result) c.loop-offset.memory) c.in_ok-at.ensures.pointer
+    ∙ ap (λ (z : ℤ). initialise_result (record (next_pointer c.args.space m) { offset = i }) (Int UnsignedChar) (value.Int z) c.loop-offset.memory) z
+    ∙ ap (λ (before : Memory). initialise_result (record (next_pointer c.args.space m) { offset = i }) (Int UnsignedChar) (value.Int (pos (get_or bytes i 0))) before) c.loop-offset.invariant
+    ∙ stored_more c.args.space c.args.place i bytes m within small in
     left_by c.initialise.result _ c.loop-offset.memory c.initialise.new.self (with_new c.args.space (stored_object c.args.place bytes (i + 1)) m) c.initialise.ensures given
 
 pub returns : goal.returns
