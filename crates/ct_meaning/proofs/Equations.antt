@@ -1,5 +1,5 @@
 -- The equations of the meaning, one for each form, and how outcomes go on.
-use Rattle.std.proofs.Common.{◌≡◌, ℕ, suc, ◌+◌, ◌-◌, ◌<◌, ◌≤◌, List, [], ◌∷◌, ◌++◌, map, drop, length, get_or, ℤ, refl, sym, ap, subst, ◌∙◌, Option, Some, None, Result, Ok, Err, add-one, drop-cons, arith}
+use Rattle.std.proofs.Common.{◌≡◌, ℕ, suc, ◌+◌, ◌-◌, ◌<◌, ◌≤◌, List, [], ◌∷◌, ◌++◌, map, drop, length, get_or, ℤ, sym, ap, subst, ◌∙◌, Option, Some, None, Result, Err, add-one, drop-cons, arith}
 use Rattle.ct_meaning.specs.declared.state.State.{State}
 use Rattle.ct_meaning.specs.declared.state.Stop.{Stop}
 use Rattle.ct_meaning.specs.declared.state.Stop.TheVariants.{Aborted, OutOfMemory}

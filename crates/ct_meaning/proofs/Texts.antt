@@ -1,5 +1,5 @@
 -- A string literal as it is stored, one byte after another.
-use Rattle.std.proofs.Common.{◌≡◌, ℕ, zero, suc, ◌+◌, ◌-◌, ◌%◌, ◌<◌, ◌≤◌, Bool, true, false, pos, List, [], ◌∷◌, ◌++◌, length, map, take, drop, replicate, get_or, refl, sym, ap, ◌∙◌, arith, append_assoc, append-nil, nat_lt, Option, Some, None, Result, Ok, Err}
+use Rattle.std.proofs.Common.{◌≡◌, ℕ, zero, suc, ◌+◌, ◌-◌, ◌%◌, ◌<◌, Bool, true, false, pos, List, [], ◌∷◌, ◌++◌, length, map, take, drop, replicate, get_or, refl, sym, ap, ◌∙◌, arith, append_assoc, append-nil, nat_lt, Option, Some, Result, Ok, Err}
 use Rattle.std.specs.Prelude.{slice_get, slice_set, MatchResult, if◌then◌else◌, ◌==◌}
 use Rattle.std.proofs.lemmas.Bool.Decides.{nat_tests}
 use Rattle.std.proofs.lemmas.List.{take_more, take_all, length-map, length-take-le, length-append, map-append}
@@ -16,7 +16,7 @@ use Rattle.ct_core.specs.declared.objects.Object.{Object}
 use Rattle.ct_core.specs.declared.objects.Kind.TheVariants.{Text}
 use Rattle.ct_core.specs.declared.objects.Scalar.TheVariants.{Int}
 use Rattle.ct_core.specs.Memory.{Memory, objects_in, object_of, with_object, with_new}
-use Rattle.ct_core.specs.Access.{and_then, cells_of, cells_with, live_object, object_with, aligned_object, reached_object, memory_with, initialise_result}
+use Rattle.ct_core.specs.Access.{and_then, cells_of, cells_with, aligned_object, reached_object, memory_with, initialise_result}
 use Rattle.ct_meaning.specs.Program.{text_object}
 
 get_end : {A : Type 0} (xs : List A) (x : A) → slice_get (xs ++ x ∷ []) (length xs) ≡ Some x

@@ -1,4 +1,4 @@
-use Rattle.std.proofs.Common.{ℕ, ◌+◌, drop, sym, ap, ◌∙◌, rules, arith}
+use Rattle.std.proofs.Common.{◌+◌, drop, ap, ◌∙◌, rules, arith}
 use Rattle.ct_core.specs.declared.values.Value.{Value}
 use Rattle.ct_meaning.specs.Doing.{Outcome, onwards}
 use Rattle.ct_meaning.specs.Meaning.{initialise_parameters}
