@@ -8,6 +8,7 @@ mod phases;
 mod plain;
 mod program;
 mod rules;
+mod runner_law;
 mod state;
 #[cfg(test)]
 mod tests;
@@ -15,4 +16,5 @@ mod values;
 
 pub use laws::{any_numbers, nothing_is_given_back};
 pub use plain::plain;
+pub use runner_law::{a_runner_is_named_apart, a_table_in_order_is_linked, runner_runs_the_phases};
 pub use state::{Ending, Place, Position, State, Stop, Where};
