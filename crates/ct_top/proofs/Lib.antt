@@ -1,4 +1,6 @@
 mod Logs
+mod OneWord
+mod Texts
 mod Members
 mod Stopping
 mod Taken
