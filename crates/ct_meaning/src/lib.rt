@@ -12,8 +12,6 @@ mod runner;
 mod runner_law;
 mod state;
 mod table;
-#[cfg(test)]
-mod tests;
 mod values;
 
 pub use laws::{
