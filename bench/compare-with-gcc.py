@@ -45,7 +45,7 @@ def expression(rand, names, depth):
         return f"({left_text} - {right_text})", lambda state: kept(left(state) - right(state))
     if choice == 4:
         return f"({left_text} - {right_text} + 1)", lambda state: kept(kept(left(state) - right(state)) + 1)
-    return f"{left_text} + ({right_text})", lambda state: kept(left(state) + right(state))
+    return f"({left_text} + ({right_text}))", lambda state: kept(left(state) + right(state))
 
 
 def case(rand, number):
