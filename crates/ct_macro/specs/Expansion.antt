@@ -1,0 +1,167 @@
+-- The expansion of a list of tokens (C11 6.10.3, 6.10.3.4). Each token carries the macros that may not expand it: where
+-- the standard leaves open whether a name is replaced again, this set decides.
+use Rattle.std.specs.Prelude.{◌≡◌, ℕ, ◌+◌, ◌<◌, ◌≤◌, ◌⊎◌, Bool, true, false, List, [], ◌∷◌, ◌++◌, length, Option, Some, None, map, codes, if◌then◌else◌}
+use Rattle.std.specs.List.{filter_map}
+use Rattle.std.specs.Str.{bytes_eq}
+use Rattle.std.specs.Fmt.{decimal}
+use Rattle.ct_base.specs.declared.lexical.Token.{Token}
+use Rattle.ct_base.specs.declared.lexical.TokenKind.{TokenKind}
+use Rattle.ct_base.specs.declared.lexical.TokenKind.TheVariants.{Name, Number, Char, Text, Punct, Other, Line}
+use Rattle.ct_macro.specs.declared.definition.Macro.{Macro}
+use Rattle.ct_macro.specs.declared.faults.MacroFault.{MacroFault}
+use Rattle.ct_macro.specs.declared.faults.MacroKind.{MacroKind}
+use Rattle.ct_macro.specs.declared.faults.MacroKind.TheVariants.{Arguments, OpenCall, BadPaste, TooLong}
+use Rattle.ct_macro.specs.declared.marked.Marked.{Marked}
+use Rattle.ct_macro.specs.Words.{is_open, line_name, with_variable}
+use Rattle.ct_macro.specs.Definition.{is_named}
+use Rattle.ct_macro.specs.Calls.{IsCall, IsOpenCall, AreArguments, separators, arguments_for}
+use Rattle.ct_macro.specs.Sets.{is_in, common}
+use Rattle.ct_macro.specs.declared.call.Call.{Call}
+use Rattle.ct_macro.specs.Substitution.{IsPut, call_of, full_arguments}
+
+-- ---- what is replaced
+
+-- `__LINE__` is replaced as by an object-like macro whose body is the number of its line (6.10.8.1)
+abbrev pub line_macro : Token → Macro
+line_macro token =
+    record { name = line_name; parameters = None; variadic = false; body = record { kind = Number; text = decimal token.span.line; span = token.span; spaced = token.spaced } ∷ [] }
+
+-- the macro of a name, with its place in the table
+abbrev pub placed_macro : ℕ → List ℕ → List Macro → Option (ℕ × Macro)
+placed_macro place name [] = None
+placed_macro place name (m ∷ macros) = if is_named name m then Some (place, m) else placed_macro (place + 1) name macros
+
+abbrev pub macro_of : List Macro → Token → Option (ℕ × Macro)
+macro_of macros token =
+    if bytes_eq token.text line_name then Some (length macros, line_macro token) else placed_macro 0 token.text macros
+
+-- How a token reads before the tokens behind it: it stays, or it is the name of an object-like macro, or of a
+-- function-like one with its parameter list and an opening parenthesis behind it.
+pub data Use : Type 0 where
+  stays : Use
+  object : (place : ℕ) → (m : Macro) → Use
+  opened : (place : ℕ) → (m : Macro) → (names : List (List ℕ)) → (behind : List Marked) → Use
+
+abbrev pub use_of_function : ℕ → Macro → List (List ℕ) → List Marked → Use
+use_of_function place m names [] = stays
+use_of_function place m names (next ∷ behind) = if is_open next.token then opened place m names behind else stays
+
+abbrev pub use_of_macro : ℕ → Macro → Option (List (List ℕ)) → List Marked → Use
+use_of_macro place m None rest = object place m
+use_of_macro place m (Some names) rest = use_of_function place m names rest
+
+abbrev pub use_of_found : Option (ℕ × Macro) → Marked → List Marked → Use
+use_of_found None first rest = stays
+use_of_found (Some found) first rest =
+    if is_in found.0 first.hidden then stays else use_of_macro found.0 found.1 found.1.parameters rest
+
+abbrev pub use_of : List Macro → Marked → List Marked → Use
+use_of macros first rest = use_of_found (macro_of macros first.token) first rest
+
+-- what becomes of a token before the tokens behind it: nothing, a refusal, or a call with the arguments that are to be
+-- expanded, and the tokens behind the call
+pub data Reading : Type 0 where
+  kept : Reading
+  refused : (kind : MacroKind) → Reading
+  replaced : (call : Call) → (fulls : List (List Marked)) → (after : List Marked) → Reading
+
+-- the result of an object-like macro gets the macros that may not expand its name, and the macro itself
+abbrev pub reading_of_object : Marked → ℕ → Macro → List Marked → Reading
+reading_of_object name place m rest = replaced (call_of name m (name.hidden ++ place ∷ []) []) (full_arguments m []) rest
+
+-- that of a function-like macro gets the macro, and those that may expand neither its name nor the closing parenthesis
+abbrev pub reading_of_call : Marked → ℕ → Macro → Marked → List Marked → Option (List (List Marked)) → Reading
+reading_of_call name place m close after None = refused Arguments
+reading_of_call name place m close after (Some arguments) =
+    replaced (call_of name m (common name.hidden close.hidden ++ place ∷ []) arguments) (full_arguments m arguments) after
+
+pub record ReadsCall (name : Marked) (place : ℕ) (m : Macro) (names : List (List ℕ)) (behind : List Marked) (reading : Reading) : Type 0 where
+  pub inside : List Marked
+  pub close : Marked
+  pub after : List Marked
+  pub arguments : List (List Marked)
+  pub call : IsCall behind inside close after
+  pub separated : AreArguments (separators m.variadic names) inside arguments
+  pub reading_is : reading ≡ reading_of_call name place m close after (arguments_for m.variadic (length names) arguments)
+
+abbrev pub ReadsUse : Marked → List Marked → Use → Reading → Type 0
+ReadsUse first rest stays reading = reading ≡ kept
+ReadsUse first rest (object place m) reading = reading ≡ reading_of_object first place m rest
+ReadsUse first rest (opened place m names behind) reading =
+    (IsOpenCall behind × (reading ≡ refused OpenCall)) ⊎ ReadsCall first place m names behind reading
+
+abbrev pub Reads : List Macro → Marked → List Marked → Reading → Type 0
+Reads macros first rest reading = ReadsUse first rest (use_of macros first rest) reading
+
+-- ---- the whole list
+
+-- the tokens, or lists of them, with the number of tokens put so far; or the first refusal
+pub data Outcome (T : Type 0) : Type 0 where
+  done : (tokens : T) → (counted : ℕ) → Outcome T
+  stopped : (fault : MacroFault) → Outcome T
+
+abbrev pub fault_at : MacroKind → Marked → MacroFault
+fault_at kind name = record { kind = kind; name = name.token.text; line = name.token.span.line }
+
+abbrev pub led_by : {A : Type 0} → A → Outcome (List A) → Outcome (List A)
+led_by first (done rest counted) = done (first ∷ rest) counted
+led_by first (stopped fault) = stopped fault
+
+module _ (macros : List Macro) (room : ℕ) where
+  mutual
+    -- what a list becomes, where so many tokens were put before
+    pub data Expands : ℕ → List Marked → Outcome (List Marked) → Type 0 where
+      nothing : {counted : ℕ} → Expands counted [] (done [] counted)
+      keeps : {counted : ℕ} {first : Marked} {rest : List Marked} {outcome : Outcome (List Marked)} → Reads macros first rest kept
+          → Expands counted rest outcome → Expands counted (first ∷ rest) (led_by first outcome)
+      refuses : {counted : ℕ} {first : Marked} {rest : List Marked} {kind : MacroKind} → Reads macros first rest (refused kind)
+          → Expands counted (first ∷ rest) (stopped (fault_at kind first))
+      replaces : {counted : ℕ} {first : Marked} {rest : List Marked} {call : Call} {arguments : List (List Marked)} {after : List Marked} {fulls : Outcome (List (List Marked))} {outcome : Outcome (List Marked)}
+          → Reads macros first rest (replaced call arguments after) → ExpandsEach counted arguments fulls
+          → Continues call after fulls outcome → Expands counted (first ∷ rest) outcome
+
+    -- what each of some lists becomes, one after another
+    pub data ExpandsEach : ℕ → List (List Marked) → Outcome (List (List Marked)) → Type 0 where
+      none : {counted : ℕ} → ExpandsEach counted [] (done [] counted)
+      each : {counted later : ℕ} {first tokens : List Marked} {rest : List (List Marked)} {outcome : Outcome (List (List Marked))}
+          → Expands counted first (done tokens later) → ExpandsEach later rest outcome
+          → ExpandsEach counted (first ∷ rest) (led_by tokens outcome)
+      ends : {counted : ℕ} {first : List Marked} {rest : List (List Marked)} {fault : MacroFault}
+          → Expands counted first (stopped fault) → ExpandsEach counted (first ∷ rest) (stopped fault)
+
+    -- what a call and the tokens behind it become, once the arguments are expanded: what the call puts is counted, and
+    -- read again together with the tokens behind
+    pub data Continues : Call → List Marked → Outcome (List (List Marked)) → Outcome (List Marked) → Type 0 where
+      stops : {call : Call} {after : List Marked} {fault : MacroFault} → Continues call after (stopped fault) (stopped fault)
+      unpasted : {call : Call} {after : List Marked} {fulls : List (List Marked)} {counted : ℕ}
+          → ((put : List Marked) → IsPut call fulls put → ⊥)
+          → Continues call after (done fulls counted) (stopped (fault_at BadPaste call.name))
+      passes : {call : Call} {after : List Marked} {fulls : List (List Marked)} {counted : ℕ} {put : List Marked}
+          → IsPut call fulls put → room < counted + length put
+          → Continues call after (done fulls counted) (stopped (fault_at TooLong call.name))
+      again : {call : Call} {after : List Marked} {fulls : List (List Marked)} {counted : ℕ} {put : List Marked} {outcome : Outcome (List Marked)}
+          → IsPut call fulls put → counted + length put ≤ room → Expands (counted + length put) (put ++ after) outcome
+          → Continues call after (done fulls counted) outcome
+
+-- ---- the list of a text
+
+-- new-lines count as white space before the next token
+abbrev pub unbroken : Bool → List Token → List Marked
+unbroken broken [] = []
+unbroken broken (token ∷ tokens) = by_kind token.kind (unbroken true tokens) (unbroken false tokens)
+  where
+    kept_token : Marked
+    kept_token = record { token = if broken then record token { spaced = true } else token; hidden = [] }
+
+    by_kind : TokenKind → List Marked → List Marked → List Marked
+    by_kind Line broken_rest rest = broken_rest
+    by_kind kind broken_rest rest = kept_token ∷ rest
+
+-- a text of tokens becomes these tokens, and so many are put
+abbrev pub IsExpansion : List Macro → List Token → ℕ → List Token → ℕ → Type 0
+IsExpansion macros tokens room expanded counted =
+    (marked : List Marked) × Expands macros room 0 (unbroken false tokens) (done marked counted) × (expanded ≡ map (λ m. m.token) marked)
+
+-- the first refusal
+abbrev pub IsRefusal : List Macro → List Token → ℕ → MacroFault → Type 0
+IsRefusal macros tokens room fault = Expands macros room 0 (unbroken false tokens) (stopped fault)
