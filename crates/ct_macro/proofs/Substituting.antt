@@ -125,3 +125,70 @@ bytes_gone d t source none = rw (has t.token.text none) refl
     has : (text : List ℕ) → text ≡ [] → has_bytes record t { token = record t.token { text = text } } ≡ false
     has [] e = refl
     has (b ∷ bs) e = cc
+
+-- ---- the steps of the loops
+
+no_length : {A : Type 0} (xs : List A) → length xs ≡ 0 → xs ≡ []
+no_length [] e = refl
+no_length (x ∷ xs) e = absurd (omega arith)
+
+pub put_begins : (tokens : Operand → List Marked) (body : List Operand) (done left : List Marked) (rest : List Operand) → done ≡ [] → left ≡ [] → rest ≡ body
+    → PutSoFar tokens body done left rest
+put_begins tokens body done left rest d l r = rw (d, l, r) (nothing_put tokens body)
+
+pub pasted_on : OneTokenization → (tokens : Operand → List Marked) (body : List Operand) (done left before these joint : List Marked) (operand : Operand) (old rest : List Operand)
+    → PutSoFar tokens body done left old → old ≡ operand ∷ rest → operand.behind_paste ≡ true → before ≡ left → these ≡ tokens operand → Joins before these joint
+    → PutSoFar tokens body done joint rest
+pasted_on law tokens body done left before these joint operand old rest so_far split behind front is joins =
+    put_pasted law tokens body done left operand rest joint (subst (λ (r : List Operand). PutSoFar tokens body done left r) split so_far) behind
+    (subst (λ (l : List Marked). Joins l (tokens operand) joint) front (subst (λ (t : List Marked). Joins before t joint) is joins))
+
+pub plain_on : (tokens : Operand → List Marked) (body : List Operand) (done left before these later : List Marked) (operand : Operand) (old rest : List Operand)
+    → PutSoFar tokens body done left old → old ≡ operand ∷ rest → operand.behind_paste ≡ false → before ≡ left → these ≡ tokens operand → later ≡ done ++ before
+    → PutSoFar tokens body later these rest
+plain_on tokens body done left before these later operand old rest so_far split behind front is all =
+    subst (λ (t : List Marked). PutSoFar tokens body later t rest) (sym is)
+    (subst (λ (d : List Marked). PutSoFar tokens body d (tokens operand) rest) (sym (all ∙ ap (λ l. done ++ l) front))
+    (put_plain tokens body done left operand rest (subst (λ (r : List Operand). PutSoFar tokens body done left r) split so_far) behind))
+
+pub never_on : (tokens : Operand → List Marked) (body : List Operand) (done left before these : List Marked) (operand : Operand) (old rest : List Operand)
+    → PutSoFar tokens body done left old → old ≡ operand ∷ rest → operand.behind_paste ≡ true → before ≡ left → these ≡ tokens operand
+    → ((joint : List Marked) → Joins before these joint → ⊥) → (put : List Marked) → Puts tokens [] body put → ⊥
+never_on tokens body done left before these operand old rest so_far split behind front is none put p =
+    never_put tokens body done left operand rest (subst (λ (r : List Operand). PutSoFar tokens body done left r) split so_far) behind
+    (λ joint joins. none joint (subst (λ (l : List Marked). Joins l these joint) (sym front) (subst (λ (t : List Marked). Joins left t joint) (sym is) joins))) put p
+
+pub all_on : (tokens : Operand → List Marked) (body : List Operand) (done left all : List Marked) (rest : List Operand) → PutSoFar tokens body done left rest → length rest ≡ 0
+    → all ≡ done ++ left → Puts tokens [] body all
+all_on tokens body done left all rest so_far end is =
+    subst (λ (p : List Marked). Puts tokens [] body p) (sym is) (all_put tokens body done left rest so_far (no_length rest end))
+
+module _ (dress : Marked → Marked) (place : Token) where
+  pub dress_begins : (put source tokens none : List Marked) → put ≡ [] → source ≡ tokens ++ none → none ≡ []
+      → placed_on put place (map dress (filter has_bytes source)) ≡ placed place (map dress (filter has_bytes tokens))
+  dress_begins put source tokens none p s e =
+      let whole : source ≡ tokens = s ∙ ap (λ l. tokens ++ l) e ∙ append-nil tokens in rw (p, whole) refl
+
+  pub dress_first : (put later source rest : List Marked) (marked whole t : Marked) → put ≡ [] → later ≡ put ++ t ∷ [] → t ≡ respaced place.spaced whole → whole ≡ dress marked
+      → source ≡ marked ∷ rest → (marked.token.text ≡ [] → ⊥)
+      → placed_on later place (map dress (filter has_bytes rest)) ≡ placed_on put place (map dress (filter has_bytes source))
+  dress_first put later source rest marked whole t empty more is dressed split some =
+      let grown : later ≡ put ++ respaced place.spaced (dress marked) ∷ [] = more ∙ ap (λ (x : Marked). put ++ x ∷ []) (is ∙ ap (respaced place.spaced) dressed) in
+      ap (λ l. placed_on l place (map dress (filter has_bytes rest))) grown ∙ first_dressed put place (dress marked) (map dress (filter has_bytes rest)) empty
+      ∙ ap (λ l. placed_on put place l) (sym (bytes_kept dress marked rest some)) ∙ ap (λ l. placed_on put place (map dress (filter has_bytes l))) (sym split)
+
+  pub dress_next : (put later source rest : List Marked) (marked whole : Marked) → (put ≡ [] → ⊥) → later ≡ put ++ whole ∷ [] → whole ≡ dress marked
+      → source ≡ marked ∷ rest → (marked.token.text ≡ [] → ⊥)
+      → placed_on later place (map dress (filter has_bytes rest)) ≡ placed_on put place (map dress (filter has_bytes source))
+  dress_next put later source rest marked whole full more dressed split some =
+      let grown : later ≡ put ++ dress marked ∷ [] = more ∙ ap (λ (x : Marked). put ++ x ∷ []) dressed in
+      ap (λ l. placed_on l place (map dress (filter has_bytes rest))) grown ∙ next_dressed put place (dress marked) (map dress (filter has_bytes rest)) full
+      ∙ ap (λ l. placed_on put place l) (sym (bytes_kept dress marked rest some)) ∙ ap (λ l. placed_on put place (map dress (filter has_bytes l))) (sym split)
+
+  pub dress_none : (put source rest : List Marked) (marked : Marked) → source ≡ marked ∷ rest → marked.token.text ≡ []
+      → placed_on put place (map dress (filter has_bytes rest)) ≡ placed_on put place (map dress (filter has_bytes source))
+  dress_none put source rest marked split none =
+      ap (λ l. placed_on put place l) (sym (bytes_gone dress marked rest none)) ∙ ap (λ l. placed_on put place (map dress (filter has_bytes l))) (sym split)
+
+  pub dress_ends : (put source : List Marked) → source ≡ [] → put ≡ placed_on put place (map dress (filter has_bytes source))
+  dress_ends put source end = sym (all_dressed put place) ∙ ap (λ l. placed_on put place (map dress (filter has_bytes l))) (sym end)
