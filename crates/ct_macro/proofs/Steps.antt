@@ -1,17 +1,67 @@
 -- Each step of an expansion is a rule of its definition.
-use Rattle.std.proofs.Common.{◌≡◌, ℕ, ◌+◌, ◌<◌, ◌≤◌, List, [], ◌∷◌, ◌++◌, length, refl, sym, ap, ◌∙◌, subst, append_assoc}
+use Rattle.std.proofs.Common.{◌≡◌, ℕ, ◌+◌, ◌<◌, ◌≤◌, List, [], ◌∷◌, ◌++◌, length, refl, sym, ap, ◌∙◌, subst, append_assoc, arith, length-append}
 use Rattle.std.proofs.lemmas.List.{append-nil}
+use Rattle.std.specs.Prelude.{Result, Ok, Err, OnOk, IsErrAnd, ◌-◌, ◌*◌}
+use Rattle.ct_base.specs.Answers.{IfFault}
+use Rattle.ct_base.specs.declared.memory.Fail.{Fail}
+use Rattle.ct_base.specs.declared.memory.Fail.TheVariants.{Fault, OutOfMemory}
 use Rattle.ct_macro.specs.declared.faults.MacroFault.{MacroFault}
 use Rattle.ct_macro.specs.declared.faults.MacroKind.{MacroKind}
 use Rattle.ct_macro.specs.declared.faults.MacroKind.TheVariants.{BadPaste, TooLong}
 use Rattle.ct_macro.specs.declared.definition.Macro.{Macro}
 use Rattle.ct_macro.specs.declared.marked.Marked.{Marked}
 use Rattle.ct_macro.specs.declared.call.Call.{Call}
+use Rattle.ct_macro.specs.declared.reading.Step.{Step}
+use Rattle.ct_macro.specs.declared.reading.Step.TheVariants as step
 use Rattle.ct_macro.specs.declared.expander.Frame.{Frame}
 use Rattle.ct_macro.specs.declared.expander.Expander.{Expander}
 use Rattle.ct_macro.specs.Substitution.{IsPut}
 use Rattle.ct_macro.specs.Expansion.{Reading, kept, refused, replaced, Outcome, done, stopped, fault_at, led_by, Reads, Expands, nothing, keeps, refuses, replaces, ExpandsEach, none, each, ends, Continues, stops, unpasted, passes, again}
-use Rattle.ct_macro.specs.Machine.{led_all, Finishes, ResumesOne, Resumes, GoesOn, Comes}
+use Rattle.ct_macro.specs.Machine.{StepGives, led_all, Finishes, ResumesOne, Resumes, GoesOn, Comes}
+
+-- ---- answers
+
+pub on_ok : (T E : Type 0) (r : Result T E) (P Q : Type 0) → OnOk r P → (P → Q) → OnOk r Q
+on_ok T E (Ok value) P Q h f = f h
+on_ok T E (Err e) P Q h f = h
+
+pub if_fault : (T F : Type 0) (r : Result T (Fail F)) (P Q : F → Type 0) → IfFault {T = T} {F = F} r P → ((fault : F) → P fault → Q fault) → IfFault {T = T} {F = F} r Q
+if_fault T F (Ok value) P Q h f = tt
+if_fault T F (Err (Fault fault)) P Q h f = f fault h
+if_fault T F (Err OutOfMemory) P Q h f = tt
+
+pub fault_is : (T F : Type 0) (P : F → Type 0) (f : Fail F) (fault : F) → f ≡ Fault fault → P fault → IfFault {T = T} {F = F} (Err f) P
+fault_is T F P f fault e p = subst (λ (g : Fail F). IfFault {T = T} {F = F} (Err g) P) (sym e) p
+
+-- a fault that is handed on
+pub fault_passed : (T F : Type 0) (r : Result T (Fail F)) (e : Fail F) (P Q : F → Type 0) → IsErrAnd r (λ m. m ≡ e) → IfFault {T = Unit {0}} {F = F} (Err e) P
+    → ((fault : F) → P fault → Q fault) → IfFault {T = T} {F = F} r Q
+fault_passed T F (Ok value) e P Q is h f = tt
+fault_passed T F (Err m) e P Q is h f = if_fault (Unit {0}) F (Err m) P Q (subst (λ (g : Fail F). IfFault {T = Unit {0}} {F = F} (Err g) P) (sym is) h) f
+
+-- ---- what a step reads
+
+module _ (macros : List Macro) (first : Marked) (rest : List Marked) where
+  abbrev pub Gives : Step → List Marked → Type 0
+  Gives answer after = (reading : Reading) × Reads macros first rest reading × StepGives first rest answer after reading
+
+  pub kept_reading : (answer : Step) (after : List Marked) (token : Marked) → Gives answer after → answer ≡ step.Kept token
+      → Reads macros first rest kept × (token ≡ first) × (after ≡ rest)
+  kept_reading answer after token given is =
+      let moved : Gives (step.Kept token) after = subst (λ (a : Step). Gives a after) is given in
+      (subst (λ (r : Reading). Reads macros first rest r) moved.2.0 moved.1, moved.2.1, moved.2.2)
+
+  pub refused_reading : (answer : Step) (after : List Marked) (kind : MacroKind) (name : Marked) → Gives answer after → answer ≡ step.Refused kind name
+      → Reads macros first rest (refused kind) × (name ≡ first)
+  refused_reading answer after kind name given is =
+      let moved : Gives (step.Refused kind name) after = subst (λ (a : Step). Gives a after) is given in
+      (subst (λ (r : Reading). Reads macros first rest r) moved.2.0 moved.1, moved.2.1)
+
+  pub replaced_reading : (answer : Step) (after : List Marked) (call : Call) (arguments : List (List Marked)) → Gives answer after → answer ≡ step.Replaced call arguments
+      → Reads macros first rest (replaced call arguments after)
+  replaced_reading answer after call arguments given is =
+      let moved : Gives (step.Replaced call arguments) after = subst (λ (a : Step). Gives a after) is given in
+      subst (λ (r : Reading). Reads macros first rest r) moved.2 moved.1
 
 led_all_nil : {A : Type 0} (o : Outcome (List A)) → led_all [] o ≡ o
 led_all_nil (done rest counted) = refl
@@ -26,6 +76,20 @@ module _ (macros : List Macro) (room : ℕ) where
   abbrev pub ComesAt : ℕ → List Frame → List Marked → List Marked → Outcome (List Marked) → Type 0
   ComesAt counted frames before rest outer =
       (inner : Outcome (List Marked)) × Expands macros room counted rest inner × Resumes macros room frames (led_all before inner) outer
+
+  pub comes_moved : (counted later : ℕ) (frames frames' : List Frame) (before before' rest rest' : List Marked) (outer : Outcome (List Marked))
+      → counted ≡ later → frames ≡ frames' → before ≡ before' → rest ≡ rest' → ComesAt counted frames before rest outer → ComesAt later frames' before' rest' outer
+  comes_moved counted later frames frames' before before' rest rest' outer c f b r comes =
+      subst (λ (n : ℕ). ComesAt n frames' before' rest' outer) c
+      (subst (λ (x : List Frame). ComesAt counted x before' rest' outer) f
+        (subst (λ (d : List Marked). ComesAt counted frames d rest' outer) b
+          (subst (λ (l : List Marked). ComesAt counted frames before l outer) r comes)))
+
+  -- a call whose arguments that wait are the same
+  pub waits_moved : (counted : ℕ) (frames : List Frame) (frame : Frame) (waiting : List (List Marked)) (outer : Outcome (List Marked)) → waiting ≡ frame.waiting
+      → GoesOn macros room record frame { waiting = waiting } counted frames outer → GoesOn macros room frame counted frames outer
+  waits_moved counted frames frame waiting outer e goes =
+      subst (λ (w : List (List Marked)). GoesOn macros room record frame { waiting = w } counted frames outer) e goes
 
   pub stopped_resumes : (frames : List Frame) (fault : MacroFault) → Resumes macros room frames (stopped fault) (stopped fault)
   stopped_resumes [] fault = refl
@@ -142,3 +206,9 @@ module _ (macros : List Macro) (room : ℕ) where
           (subst (λ (d : List Marked). ComesAt state.counted state.calls d tokens outer) before
             (subst (λ (r : List Marked). ComesAt state.counted state.calls state.done r outer) rest comes))) in
       subst (λ (o : Outcome (List Marked)). Expands macros room 0 tokens o) (sym (start.2 ∙ led_all_nil start.0)) start.1
+
+-- ---- the weights
+
+pub put_lighter : (room counted len frames waiting : ℕ) (put rest later : List Marked) → later ≡ put ++ rest → len ≡ length put → counted + len ≤ room
+    → 2 * (room - (counted + len)) + length later + frames < 2 * (room - counted) + (waiting + length rest + 1) + frames
+put_lighter room counted len frames waiting put rest later e l fits = omega (arith, ap length e, length-append put rest)
