@@ -1,9 +1,5 @@
-mod Forms
 mod Tables
-mod Collecting
-mod Pasting
 mod Steps
 mod Weights
-mod Substituting
 mod Unique
 mod Readings

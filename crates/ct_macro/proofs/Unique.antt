@@ -5,14 +5,16 @@ use Rattle.std.proofs.lemmas.Bool.{false≢true}
 use Rattle.ct_macro.specs.declared.faults.MacroFault.{MacroFault}
 use Rattle.ct_macro.specs.declared.faults.MacroKind.{MacroKind}
 use Rattle.ct_macro.specs.declared.faults.MacroKind.TheVariants.{BadPaste, TooLong}
-use Rattle.ct_macro.specs.declared.definition.Macro.{Macro}
-use Rattle.ct_macro.specs.declared.marked.Marked.{Marked}
-use Rattle.ct_macro.specs.declared.call.Call.{Call}
-use Rattle.ct_macro.specs.Calls.{IsCall, AreArguments, closes_call, separates, NoneAtLevel, IsLevel, MaySeparate, fewer, arguments_for}
-use Rattle.ct_macro.specs.Substitution.{IsPut}
+use Rattle.ct_replace.specs.declared.definition.Macro.{Macro}
+use Rattle.ct_replace.specs.declared.marked.Marked.{Marked}
+use Rattle.ct_replace.specs.declared.call.Call.{Call}
+use Rattle.ct_replace.specs.Calls.{IsCall, AreArguments, closes_call, separates, NoneAtLevel, IsLevel, MaySeparate, fewer, arguments_for}
+use Rattle.ct_replace.specs.Substitution.{IsPut}
 use Rattle.ct_macro.specs.Expansion.{Use, stays, object, opened, use_of, Reading, kept, refused, replaced, reading_of_call, ReadsCall, ReadsUse, Reads, Outcome, done, stopped, fault_at, led_by, Expands, nothing, keeps, refuses, replaces, ExpandsEach, none, each, ends, Continues, stops, unpasted, passes, again}
-use Rattle.ct_macro.proofs.Pasting.{OneTokenization}
-use Rattle.ct_macro.proofs.Substituting.{one_is_put}
+
+-- a call puts one list at most
+abbrev pub OneReplacement : Type 0
+OneReplacement = (call : Call) (fulls : List (List Marked)) (a b : List Marked) → IsPut call fulls a → IsPut call fulls b → a ≡ b
 
 -- ---- a call is read in one way
 
@@ -143,7 +145,7 @@ module _ (macros : List Macro) (room : ℕ) where
 
   -- ---- one outcome
 
-  module _ (law : OneTokenization) where
+  module _ (law : OneReplacement) where
     no_put_one : (call : Call) (after : List Marked) (fulls : List (List Marked)) (counted : ℕ) (b : Outcome (List Marked)) → ((put : List Marked) → IsPut call fulls put → ⊥)
         → Comes call after fulls counted b → stopped (fault_at BadPaste call.name) ≡ b
     no_put_one call after fulls counted b n (no_put m e) = sym e
@@ -154,14 +156,14 @@ module _ (macros : List Macro) (room : ℕ) where
         → Comes call after fulls counted b → stopped (fault_at TooLong call.name) ≡ b
     over_one call after fulls counted b put is far (no_put m e) = absurd (m put is)
     over_one call after fulls counted b put is far (over p i o e) = sym e
-    over_one call after fulls counted b put is far (on p i f e) = absurd (omega (arith, ap length (one_is_put law call fulls put p is i)))
+    over_one call after fulls counted b put is far (on p i f e) = absurd (omega (arith, ap length (law call fulls put p is i)))
 
     on_expands : (call : Call) (after : List Marked) (fulls : List (List Marked)) (counted : ℕ) (b : Outcome (List Marked)) (put : List Marked) → IsPut call fulls put → counted + length put ≤ room
         → Comes call after fulls counted b → Expands macros room (counted + length put) (put ++ after) b
     on_expands call after fulls counted b put is fits (no_put m e) = absurd (m put is)
-    on_expands call after fulls counted b put is fits (over p i o e) = absurd (omega (arith, ap length (one_is_put law call fulls put p is i)))
+    on_expands call after fulls counted b put is fits (over p i o e) = absurd (omega (arith, ap length (law call fulls put p is i)))
     on_expands call after fulls counted b put is fits (on p i f e) =
-        subst (λ (q : List Marked). Expands macros room (counted + length q) (q ++ after) b) (one_is_put law call fulls p put i is) e
+        subst (λ (q : List Marked). Expands macros room (counted + length q) (q ++ after) b) (law call fulls p put i is) e
 
     mutual
       pub expands_one : {counted : ℕ} {tokens : List Marked} {a : Outcome (List Marked)} → Expands macros room counted tokens a → (b : Outcome (List Marked)) → Expands macros room counted tokens b → a ≡ b

@@ -1,10 +1,3 @@
-pub mod Words
-pub mod Definition
-pub mod Calls
-pub mod Sets
-pub mod Spelled
-pub mod Substitution
 pub mod Expansion
 pub mod Table
-pub mod Collected
 pub mod Machine

@@ -3,19 +3,17 @@
 ghost use Rattle.std.specs.Prelude.{◌≡◌, ◌∷◌, [], ◌+◌, ◌-◌, ◌*◌, ◌<◌, ◌≤◌, List, true, false, IfOk, OnOk};
 ghost use Rattle.ct_base.specs.Answers.{IfFault};
 ghost use Rattle.ct_base.specs.declared.memory.Fail.TheVariants.{Fault};
-ghost use Rattle.ct_macro.specs.declared.definition.Macro as declared_macro;
-ghost use Rattle.ct_macro.specs.declared.marked.Marked.{Marked};
+ghost use Rattle.ct_replace.specs.declared.definition.Macro as declared_macro;
+ghost use Rattle.ct_replace.specs.declared.marked.Marked.{Marked};
 ghost use Rattle.ct_macro.specs.declared.expander.Expander as declared_state;
 ghost use Rattle.ct_macro.specs.Expansion as spec;
 ghost use Rattle.ct_macro.specs.Machine.{Comes, GoesOn, weight, weight_frame, weight_frames};
 
-use crate::call::Call;
 use crate::faults::{MacroFault, MacroKind};
-use crate::marked::Marked;
 use crate::reading::{Step, read_token};
-use crate::source::Source;
 use crate::table::Macros;
 use ct_base::{Fail, Items, Mem, Out};
+use ct_replace::{Call, Marked, Source};
 use std::alloc::Global;
 use std::mem;
 

@@ -3,17 +3,15 @@
 ghost use Rattle.std.specs.Prelude.{◌≡◌, false, ℕ, List, IfOk, map};
 ghost use Rattle.ct_base.specs.Answers.{IfFault};
 ghost use Rattle.ct_base.specs.declared.lexical.Token.{Token};
-ghost use Rattle.ct_macro.specs.declared.definition.Macro.{Macro};
+ghost use Rattle.ct_replace.specs.declared.definition.Macro.{Macro};
 ghost use Rattle.ct_macro.specs.declared.faults.MacroFault as declared;
 ghost use Rattle.ct_macro.specs.Expansion as spec;
 
 use crate::expander::Expander;
 use crate::faults::MacroFault;
-use crate::marked::{Marked, copy_token};
-use crate::source::Source;
 use crate::table::Macros;
 use ct_base::{Items, Mem, Out, Token, TokenKind};
-use ct_token::one_tokenization;
+use ct_replace::{Marked, Source, copy_token, one_replacement};
 use std::alloc::Global;
 
 /// What a list of tokens becomes, and how many tokens were put by replacements, intermediate ones
@@ -96,5 +94,5 @@ pub fn one_expansion()
     ensures refusal { (macros : List Macro) (tokens : List Token) (room : ℕ) (one other : declared.MacroFault)
         → spec.IsRefusal macros tokens room one → spec.IsRefusal macros tokens room other → one ≡ other }
 {
-    one_tokenization();
+    one_replacement();
 }

@@ -1,20 +1,15 @@
 //! What becomes of a token before the tokens behind it.
 
 ghost use Rattle.std.specs.Prelude.{◌≡◌, ◌∷◌, List, ℕ, true, Some, IfOk, IsTrue, ◌↔◌, length};
-ghost use Rattle.ct_macro.specs.declared.marked.Marked.{Marked};
-ghost use Rattle.ct_macro.specs.Words.{is_open};
+ghost use Rattle.ct_replace.specs.declared.marked.Marked.{Marked};
+ghost use Rattle.ct_replace.specs.Words.{is_open};
 ghost use Rattle.ct_macro.specs.Expansion as spec;
 ghost use Rattle.ct_macro.specs.Machine.{StepGives};
 
-use crate::call::Call;
-use crate::calls::{CallTokens, arguments_for, read_call};
-use crate::definition::Macro;
 use crate::faults::MacroKind;
-use crate::marked::Marked;
-use crate::source::Source;
 use crate::table::Macros;
-use crate::words::{is_line, is_open};
 use ct_base::{Bytes, Items, Mem, Token, TokenKind, decimal};
+use ct_replace::{Call, CallTokens, Macro, Marked, Source, arguments_for, is_line, is_open, read_call};
 use std::alloc::Global;
 
 /// What becomes of a token: it stays, it is refused, or it is replaced, with the arguments that are to

@@ -1,5 +1,5 @@
 use Rattle.std.proofs.Common.{rules, ◌≡◌, ◌∷◌, ◌++◌, [], ℕ, ◌+◌, ◌-◌, ◌*◌, ◌<◌, ◌≤◌, List, length, ap, refl, sym, subst, ◌∙◌, arith}
-use Rattle.ct_macro.specs.declared.marked.Marked.{Marked}
+use Rattle.ct_replace.specs.declared.marked.Marked.{Marked}
 use Rattle.std.proofs.lemmas.Bool.{false≢true}
 use Rattle.std.proofs.lemmas.List.{append-nil}
 use Rattle.std.proofs.lemmas.Result.{IfOk-weaker}
@@ -7,7 +7,7 @@ use Rattle.std.proofs.Common.{length-append}
 use Rattle.ct_base.specs.declared.memory.Fail.TheVariants.{Fault}
 use Rattle.ct_macro.specs.declared.faults.MacroKind.TheVariants.{BadPaste, TooLong}
 use Rattle.ct_macro.specs.declared.expander.Frame.{Frame}
-use Rattle.ct_macro.specs.Substitution.{IsPut}
+use Rattle.ct_replace.specs.Substitution.{IsPut}
 use Rattle.ct_macro.specs.Expansion.{Reads, replaced, fault_at}
 use Rattle.ct_macro.specs.Machine.{weight_each, weight_frames}
 use Rattle.ct_macro.proofs.Weights.{reads_lighter}

@@ -1,0 +1,5 @@
+mod Texts
+mod Forms
+mod Collecting
+mod Pasting
+mod Substituting
