@@ -32,22 +32,29 @@ open_call name place m names rest behind after h = (refused OpenCall, inl (h, re
 pub bad_number : (name : Marked) (place : ℕ) (m : Macro) (names : List (List ℕ)) (rest behind after inside : List Marked) (close : Marked) (arguments : List (List Marked))
     → IsCall behind inside close after → AreArguments (separators m.variadic names) inside arguments → None ≡ arguments_for m.variadic (length names) arguments
     → ReadsAs name place m names rest behind (step.Refused Arguments name) after
-bad_number name place m names rest behind after inside close arguments call separated none =
-    (refused Arguments,
-     inr record { inside = inside; close = close; after = after; arguments = arguments; call = call; separated = separated; reading_is = ap (reading_of_call name place m close after) none },
-     (refl, refl))
+bad_number name place m names rest behind after inside close arguments call separated none = (
+  refused Arguments,
+  inr record { inside = inside; close = close; after = after; arguments = arguments; call = call; separated = separated; reading_is = ap (reading_of_call name place m close after) none },
+  (refl, refl),
+)
 
 pub good_call : (name : Marked) (place : ℕ) (m : Macro) (names : List (List ℕ)) (rest behind after inside : List Marked) (close : Marked) (arguments given : List (List Marked)) (call : Call) (fulls : List (List Marked)) (added : List ℕ)
     → IsCall behind inside close after → AreArguments (separators m.variadic names) inside arguments → Some given ≡ arguments_for m.variadic (length names) arguments
     → added ≡ common name.hidden close.hidden ++ place ∷ [] → call ≡ call_of name m added given → fulls ≡ full_arguments m given
     → ReadsAs name place m names rest behind (step.Replaced call fulls) after
-good_call name place m names rest behind after inside close arguments given call fulls added is separated some set called expanded =
-    (replaced call fulls after,
-     inr record {
-       inside = inside; close = close; after = after; arguments = arguments; call = is; separated = separated;
-       reading_is = ap (λ c. replaced c fulls after) (called ∙ ap (λ s. call_of name m s given) set) ∙ ap (λ f. replaced (call_of name m (common name.hidden close.hidden ++ place ∷ []) given) f after) expanded ∙ ap (reading_of_call name place m close after) some;
-     },
-     refl)
+good_call name place m names rest behind after inside close arguments given call fulls added is separated some set called expanded = (
+  replaced call fulls after,
+  inr record {
+    inside = inside;
+    close = close;
+    after = after;
+    arguments = arguments;
+    call = is;
+    separated = separated;
+    reading_is = ap (λ c. replaced c fulls after) (called ∙ ap (λ s. call_of name m s given) set) ∙ ap (λ f. replaced (call_of name m (common name.hidden close.hidden ++ place ∷ []) given) f after) expanded ∙ ap (reading_of_call name place m close after) some;
+  },
+  refl,
+)
 
 -- ---- how a name reads
 

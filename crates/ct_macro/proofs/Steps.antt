@@ -82,8 +82,8 @@ module _ (macros : List Macro) (room : ℕ) where
   comes_moved counted later frames frames' before before' rest rest' outer c f b r comes =
       subst (λ (n : ℕ). ComesAt n frames' before' rest' outer) c
       (subst (λ (x : List Frame). ComesAt counted x before' rest' outer) f
-        (subst (λ (d : List Marked). ComesAt counted frames d rest' outer) b
-          (subst (λ (l : List Marked). ComesAt counted frames before l outer) r comes)))
+      (subst (λ (d : List Marked). ComesAt counted frames d rest' outer) b
+      (subst (λ (l : List Marked). ComesAt counted frames before l outer) r comes)))
 
   -- a call whose arguments that wait are the same
   pub waits_moved : (counted : ℕ) (frames : List Frame) (frame : Frame) (waiting : List (List Marked)) (outer : Outcome (List Marked)) → waiting ≡ frame.waiting
@@ -201,10 +201,10 @@ module _ (macros : List Macro) (room : ℕ) where
       → Comes macros room state outer → Expands macros room 0 tokens outer
   whole state tokens outer counted calls before rest comes =
       let start : ComesAt 0 [] [] tokens outer =
-        subst (λ (n : ℕ). ComesAt n [] [] tokens outer) counted
-        (subst (λ (f : List Frame). ComesAt state.counted f [] tokens outer) calls
-          (subst (λ (d : List Marked). ComesAt state.counted state.calls d tokens outer) before
-            (subst (λ (r : List Marked). ComesAt state.counted state.calls state.done r outer) rest comes))) in
+      subst (λ (n : ℕ). ComesAt n [] [] tokens outer) counted
+      (subst (λ (f : List Frame). ComesAt state.counted f [] tokens outer) calls
+      (subst (λ (d : List Marked). ComesAt state.counted state.calls d tokens outer) before
+      (subst (λ (r : List Marked). ComesAt state.counted state.calls state.done r outer) rest comes))) in
       subst (λ (o : Outcome (List Marked)). Expands macros room 0 tokens o) (sym (start.2 ∙ led_all_nil start.0)) start.1
 
 -- ---- the weights

@@ -9,7 +9,9 @@ ghost use Rattle.ct_macro.specs.Machine.{StepGives};
 use crate::faults::MacroKind;
 use crate::table::Macros;
 use ct_base::{Bytes, Items, Mem, Token, TokenKind, decimal};
-use ct_replace::{Call, CallTokens, Macro, Marked, Source, arguments_for, is_line, is_open, read_call};
+use ct_replace::{
+    Call, CallTokens, Macro, Marked, Source, arguments_for, is_line, is_open, read_call,
+};
 use std::alloc::Global;
 
 /// What becomes of a token: it stays, it is refused, or it is replaced, with the arguments that are to

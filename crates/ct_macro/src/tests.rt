@@ -227,9 +227,17 @@ fn names_are_replaced_and_read_again(rt: HostRuntime) -> Result<(), TestFail> {
         (b"a x a y", b"a", b"x a y"),
         (b"a #", b"a", b"#"),
         (b"f() 1", b"f f() f ( ) f", b"f 1 1 f"),
-        (b"f(x) <x>", b"f(1) f() f\n(\n1\n) f + (1)", b"< 1 > < > < 1 > f + ( 1 )"),
+        (
+            b"f(x) <x>",
+            b"f(1) f() f\n(\n1\n) f + (1)",
+            b"< 1 > < > < 1 > f + ( 1 )",
+        ),
         (b"f(x) <x>", b"f((a,b)) f", b"< ( a , b ) > f"),
-        (b"f(x,y) y x", b"f((,),()) f(,) f([a,b])", b"( ) ( , ) b ] [ a"),
+        (
+            b"f(x,y) y x",
+            b"f((,),()) f(,) f([a,b])",
+            b"( ) ( , ) b ] [ a",
+        ),
         (b"f(x) g(f(x))", b"f(f(1))", b"g ( f ( g ( f ( 1 ) ) ) )"),
         (b"f(x) x f", b"f(1)(2)", b"1 f ( 2 )"),
         (b"f(a) a*g\ng(a) f(a)", b"f(2)(9)", b"2 * 9 * g"),
@@ -242,7 +250,11 @@ fn names_are_replaced_and_read_again(rt: HostRuntime) -> Result<(), TestFail> {
         (b"e\nf(x) <x>", b"f e (1) f(e)", b"f ( 1 ) < >"),
         (b"a b", b"\"a\" 'a' a1 1a a", b"\"a\" 'a' a1 1a b"),
         (b"f(f) f", b"f(1) f(f)", b"1 f"),
-        (b"f(x, ...) x [__VA_ARGS__]", b"f(1) f(1,) f(1,2,(3,4),5)", b"1 [ ] 1 [ ] 1 [ 2 , ( 3 , 4 ) , 5 ]"),
+        (
+            b"f(x, ...) x [__VA_ARGS__]",
+            b"f(1) f(1,) f(1,2,(3,4),5)",
+            b"1 [ ] 1 [ ] 1 [ 2 , ( 3 , 4 ) , 5 ]",
+        ),
     ];
     for (definitions, text, wanted) in table {
         compare(&rt, &table_of(&rt, definitions)?, text, wanted)?;
@@ -254,15 +266,39 @@ fn names_are_replaced_and_read_again(rt: HostRuntime) -> Result<(), TestFail> {
 fn strings_and_pastes_are_made(rt: HostRuntime) -> Result<(), TestFail> {
     let table: [Row; 11] = [
         (b"S(a) #a", b"S( x  \"y\\n\" )", b"\"x \\\"y\\\\n\\\"\""),
-        (b"S(a) #a", b"S() S(  ) S(a+b) S(a  +\n b)", b"\"\" \"\" \"a+b\" \"a + b\""),
+        (
+            b"S(a) #a",
+            b"S() S(  ) S(a+b) S(a  +\n b)",
+            b"\"\" \"\" \"a+b\" \"a + b\"",
+        ),
         (b"S(a) #a", b"S('\\0' '\"')", b"\"'\\\\0' '\\\"'\""),
         (b"S(a) #a a\nx 1", b"S(x)", b"\"x\" 1"),
         (b"S(a) %:a\nX(a) S(a)\nx 1", b"S(x) X(x)", b"\"x\" \"1\""),
-        (b"S(...) #__VA_ARGS__", b"S(1, 2 ,3) S()", b"\"1, 2 ,3\" \"\""),
-        (b"cat(a, b) a ## b\nx 1", b"cat(x, y) cat(x,) cat(,x) cat(,)", b"xy 1 1"),
-        (b"cat(a, b) a %:%: b", b"cat(x,) cat(a b, c d) cat(p, q)", b"x a bc d pq"),
-        (b"cat(a, b) a ## b", b"cat(<, <=) cat(1, 2e) cat(L, \"s\") cat(., 5)", b"<<= 12e L\"s\" .5"),
-        (b"cat(a) a ## 1 ## 2\np(a) p ## a", b"cat(p) p(x) p()", b"p12 px p"),
+        (
+            b"S(...) #__VA_ARGS__",
+            b"S(1, 2 ,3) S()",
+            b"\"1, 2 ,3\" \"\"",
+        ),
+        (
+            b"cat(a, b) a ## b\nx 1",
+            b"cat(x, y) cat(x,) cat(,x) cat(,)",
+            b"xy 1 1",
+        ),
+        (
+            b"cat(a, b) a %:%: b",
+            b"cat(x,) cat(a b, c d) cat(p, q)",
+            b"x a bc d pq",
+        ),
+        (
+            b"cat(a, b) a ## b",
+            b"cat(<, <=) cat(1, 2e) cat(L, \"s\") cat(., 5)",
+            b"<<= 12e L\"s\" .5",
+        ),
+        (
+            b"cat(a) a ## 1 ## 2\np(a) p ## a",
+            b"cat(p) p(x) p()",
+            b"p12 px p",
+        ),
         (b"o a ## b\nab c", b"o", b"c"),
     ];
     for (definitions, text, wanted) in table {
@@ -350,7 +386,11 @@ fn places_and_white_space_are_those_of_the_name(rt: HostRuntime) -> Result<(), T
     assert_eq!(rt; found.tokens.len(), wanted.len());
     for (token, (text, line, spaced)) in found.tokens.as_slice().iter().zip(wanted) {
         assert_eq!(rt; token.text.as_slice(), text);
-        assert_eq!(rt; (token.span.line, token.spaced), (line, spaced), "at {text:?}");
+        assert_eq!(rt;
+            (token.span.line, token.spaced),
+            (line, spaced),
+            "at {text:?}"
+        );
     }
     assert_eq!(rt; found.counted, 10);
     Ok(())
@@ -395,9 +435,24 @@ fn the_first_refusal_is_answered(rt: HostRuntime) -> Result<(), TestFail> {
         (b"f(x,y) x ## y", b"f(+, x)", 99, Some((BadPaste, b"f", 1))),
         (b"f(x,y) x ## y", b"f(/, /)", 99, Some((BadPaste, b"f", 1))),
         (b"f(x,y) x ## y", b"f(/, *)", 99, Some((BadPaste, b"f", 1))),
-        (b"f(x,y) x ## y", b"\n\nf(x, \"s\")", 99, Some((BadPaste, b"f", 3))),
-        (b"f(x,y) x ## y 1\ng() 1", b"f(+, g(1))", 99, Some((BadPaste, b"f", 1))),
-        (b"f(x,y) x ## y y\ng() 1", b"f(+, g(1))", 99, Some((Arguments, b"g", 1))),
+        (
+            b"f(x,y) x ## y",
+            b"\n\nf(x, \"s\")",
+            99,
+            Some((BadPaste, b"f", 3)),
+        ),
+        (
+            b"f(x,y) x ## y 1\ng() 1",
+            b"f(+, g(1))",
+            99,
+            Some((BadPaste, b"f", 1)),
+        ),
+        (
+            b"f(x,y) x ## y y\ng() 1",
+            b"f(+, g(1))",
+            99,
+            Some((Arguments, b"g", 1)),
+        ),
         (b"a b b\nb c c", b"a", 6, None),
         (b"a b b\nb c c", b"\na", 5, Some((TooLong, b"b", 2))),
         (b"a b b\nb c c", b"a", 1, Some((TooLong, b"a", 1))),

@@ -55,10 +55,10 @@ returns-in_err-go_on-clause-fault c =
     let next : Frame = record c.in-Some.frame { fulls = c.push.new.self } in
     fault_passed _ _ c.from_residual-in_err-go_on.result c.in_err-go_on.field-0.0 _ _ c.from_residual-in_err-go_on.ensures.1 c.in_err-go_on.ensures.fault
     (λ fault goes macros.
-      comes_moved macros c.args.room c.args.self.now.counted c.args.self.now.counted (c.in-Some.frame ∷ c.next.new.self) c.args.self.now.calls c.args.self.now.done c.args.self.now.done [] c.args.self.now.rest _
-      refl (sym c.in-Some.ensures) refl (sym c.requires.ended)
-      (ended_comes macros c.args.room c.args.self.now.counted c.next.new.self c.in-Some.frame next c.args.self.now.done _ refl refl refl refl
-        (c.in_ok-push.ensures.ok ∙ ap (λ (l : List Marked). c.in-Some.frame.fulls ++ l ∷ []) c.replace-full.ensures.value) (goes macros)))
+    comes_moved macros c.args.room c.args.self.now.counted c.args.self.now.counted (c.in-Some.frame ∷ c.next.new.self) c.args.self.now.calls c.args.self.now.done c.args.self.now.done [] c.args.self.now.rest _
+    refl (sym c.in-Some.ensures) refl (sym c.requires.ended)
+    (ended_comes macros c.args.room c.args.self.now.counted c.next.new.self c.in-Some.frame next c.args.self.now.done _ refl refl refl refl
+    (c.in_ok-push.ensures.ok ∙ ap (λ (l : List Marked). c.in-Some.frame.fulls ++ l ∷ []) c.replace-full.ensures.value) (goes macros)))
 
 pub returns-clause-ends : goal.returns-clause-ends
 returns-clause-ends c = λ e. absurd (false≢true (sym e))
@@ -70,7 +70,7 @@ returns-clause-goes c =
     comes_moved macros c.args.room c.args.self.now.counted c.args.self.now.counted (c.in-Some.frame ∷ c.next.new.self) c.args.self.now.calls c.args.self.now.done c.args.self.now.done [] c.args.self.now.rest outer
     refl (sym c.in-Some.ensures) refl (sym c.requires.ended)
     (ended_comes macros c.args.room c.args.self.now.counted c.next.new.self c.in-Some.frame next c.args.self.now.done outer refl refl refl refl
-      (c.in_ok-push.ensures.ok ∙ ap (λ (l : List Marked). c.in-Some.frame.fulls ++ l ∷ []) c.replace-full.ensures.value) (c.in_ok-go_on.ensures.ok macros outer comes))
+    (c.in_ok-push.ensures.ok ∙ ap (λ (l : List Marked). c.in-Some.frame.fulls ++ l ∷ []) c.replace-full.ensures.value) (c.in_ok-go_on.ensures.ok macros outer comes))
 
 pub returns-clause-within : goal.returns-clause-within
 returns-clause-within c =

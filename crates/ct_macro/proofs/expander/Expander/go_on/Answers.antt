@@ -59,9 +59,9 @@ pub returns-clause-ok : goal.returns-clause-ok
 returns-clause-ok c =
     let next : Frame = record c.args.frame { waiting = c.next.new.self } in
     λ macros outer comes.
-      argument_goes macros c.args.room c.args.self.now.counted c.args.self.now.calls c.args.frame next c.in-Some.argument outer refl c.in-Some.ensures refl refl refl
-      (comes_moved macros c.args.room c.args.self.now.counted c.args.self.now.counted c.push.new.self (next ∷ c.args.self.now.calls) c.new.result [] c.put_front.new.self c.in-Some.argument outer
-        refl c.in_ok-push.ensures c.new.ensures (c.in_ok-put_front.ensures ∙ ap (λ (l : List Marked). c.in-Some.argument ++ l) c.new-rest.ensures ∙ append-nil c.in-Some.argument) comes)
+    argument_goes macros c.args.room c.args.self.now.counted c.args.self.now.calls c.args.frame next c.in-Some.argument outer refl c.in-Some.ensures refl refl refl
+    (comes_moved macros c.args.room c.args.self.now.counted c.args.self.now.counted c.push.new.self (next ∷ c.args.self.now.calls) c.new.result [] c.put_front.new.self c.in-Some.argument outer
+    refl c.in_ok-push.ensures c.new.ensures (c.in_ok-put_front.ensures ∙ ap (λ (l : List Marked). c.in-Some.argument ++ l) c.new-rest.ensures ∙ append-nil c.in-Some.argument) comes)
 
 pub returns-clause-within : goal.returns-clause-within
 returns-clause-within c =

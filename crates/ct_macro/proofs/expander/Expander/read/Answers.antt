@@ -53,8 +53,8 @@ returns-in_ok-push-in-Kept-clause-goes c =
     λ before counted calls front rest outer comes.
     comes_moved c.args.macros.now c.args.room c.args.self.now.counted before.counted c.args.self.now.calls before.calls c.args.self.now.done before.done (c.args.first ∷ c.args.self.now.rest) before.rest outer (sym counted) (sym calls) (sym front) (sym rest)
     (kept_comes c.args.macros.now c.args.room c.args.self.now.counted c.args.self.now.calls c.args.self.now.done c.args.first c.args.self.now.rest outer read.0
-      (comes_moved c.args.macros.now c.args.room c.args.self.now.counted c.args.self.now.counted c.args.self.now.calls c.args.self.now.calls c.push.new.self (c.args.self.now.done ++ c.args.first ∷ []) c.read_token.new.rest c.args.self.now.rest outer
-        refl refl (c.in_ok-push-in-Kept.ensures.ok ∙ ap (λ (t : Marked). c.args.self.now.done ++ t ∷ []) read.1) read.2 comes))
+    (comes_moved c.args.macros.now c.args.room c.args.self.now.counted c.args.self.now.counted c.args.self.now.calls c.args.self.now.calls c.push.new.self (c.args.self.now.done ++ c.args.first ∷ []) c.read_token.new.rest c.args.self.now.rest outer
+    refl refl (c.in_ok-push-in-Kept.ensures.ok ∙ ap (λ (t : Marked). c.args.self.now.done ++ t ∷ []) read.1) read.2 comes))
 
 pub returns-in_ok-push-in-Kept-clause-within : goal.returns-in_ok-push-in-Kept-clause-within
 returns-in_ok-push-in-Kept-clause-within c =
@@ -66,8 +66,8 @@ returns-in-Refused-clause-fault c =
     let read = refused_reading c.args.macros.now c.args.first c.args.self.now.rest c.in_ok-token.field-0 c.read_token.new.rest c.in-Refused.kind c.in-Refused.name c.in_ok-token.ensures.reading c.in-Refused.is in
     fault_is (Unit {0}) _ _ c.refusal.result (fault_at c.in-Refused.kind c.args.first) (c.refusal.ensures ∙ ap (λ (n : Marked). Fault (fault_at c.in-Refused.kind n)) read.1)
     (λ before counted calls front rest.
-      comes_moved c.args.macros.now c.args.room c.args.self.now.counted before.counted c.args.self.now.calls before.calls c.args.self.now.done before.done (c.args.first ∷ c.args.self.now.rest) before.rest _ (sym counted) (sym calls) (sym front) (sym rest)
-      (refused_comes c.args.macros.now c.args.room c.args.self.now.counted c.args.self.now.calls c.args.self.now.done c.args.first c.args.self.now.rest c.in-Refused.kind read.0))
+    comes_moved c.args.macros.now c.args.room c.args.self.now.counted before.counted c.args.self.now.calls before.calls c.args.self.now.done before.done (c.args.first ∷ c.args.self.now.rest) before.rest _ (sym counted) (sym calls) (sym front) (sym rest)
+    (refused_comes c.args.macros.now c.args.room c.args.self.now.counted c.args.self.now.calls c.args.self.now.done c.args.first c.args.self.now.rest c.in-Refused.kind read.0))
 
 pub returns-in_ok-put_front-in-Replaced-clause-goes : goal.returns-in_ok-put_front-in-Replaced-clause-goes
 returns-in_ok-put_front-in-Replaced-clause-goes c =
@@ -75,12 +75,12 @@ returns-in_ok-put_front-in-Replaced-clause-goes c =
     let reads = replaced_reading c.args.macros.now c.args.first c.args.self.now.rest c.in_ok-token.field-0 c.read_token.new.rest c.in-Replaced.call c.in-Replaced.arguments c.in_ok-token.ensures.reading c.in-Replaced.is in
     let waiting : c.put_front.new.self ≡ c.in-Replaced.arguments = c.in_ok-put_front-in-Replaced.ensures ∙ ap (λ (l : List (List Marked)). c.in-Replaced.arguments ++ l) c.new-waiting.ensures ∙ append-nil c.in-Replaced.arguments in
     let moved : Reads c.args.macros.now c.args.first c.args.self.now.rest (replaced frame.call frame.waiting frame.rest) =
-        subst (λ (w : List (List Marked)). Reads c.args.macros.now c.args.first c.args.self.now.rest (replaced c.in-Replaced.call w c.replace-in-Replaced.result)) (sym waiting)
-        (subst (λ (r : List Marked). Reads c.args.macros.now c.args.first c.args.self.now.rest (replaced c.in-Replaced.call c.in-Replaced.arguments r)) (sym c.replace-in-Replaced.ensures.value) reads) in
+    subst (λ (w : List (List Marked)). Reads c.args.macros.now c.args.first c.args.self.now.rest (replaced c.in-Replaced.call w c.replace-in-Replaced.result)) (sym waiting)
+    (subst (λ (r : List Marked). Reads c.args.macros.now c.args.first c.args.self.now.rest (replaced c.in-Replaced.call c.in-Replaced.arguments r)) (sym c.replace-in-Replaced.ensures.value) reads) in
     on_ok _ _ c.go_on.result _ _ c.go_on.ensures.ok
     (λ goes before counted calls front rest outer comes.
-      comes_moved c.args.macros.now c.args.room c.args.self.now.counted before.counted c.args.self.now.calls before.calls c.replace.result before.done (c.args.first ∷ c.args.self.now.rest) before.rest outer (sym counted) (sym calls) (c.replace.ensures.value ∙ sym front) (sym rest)
-      (replaced_comes c.args.macros.now c.args.room c.args.self.now.counted c.args.self.now.calls c.args.first c.args.self.now.rest frame outer moved c.new.ensures (goes c.args.macros.now outer comes)))
+    comes_moved c.args.macros.now c.args.room c.args.self.now.counted before.counted c.args.self.now.calls before.calls c.replace.result before.done (c.args.first ∷ c.args.self.now.rest) before.rest outer (sym counted) (sym calls) (c.replace.ensures.value ∙ sym front) (sym rest)
+    (replaced_comes c.args.macros.now c.args.room c.args.self.now.counted c.args.self.now.calls c.args.first c.args.self.now.rest frame outer moved c.new.ensures (goes c.args.macros.now outer comes)))
 
 pub returns-in_ok-put_front-in-Replaced-clause-within : goal.returns-in_ok-put_front-in-Replaced-clause-within
 returns-in_ok-put_front-in-Replaced-clause-within c =
@@ -88,7 +88,7 @@ returns-in_ok-put_front-in-Replaced-clause-within c =
     let reads = replaced_reading c.args.macros.now c.args.first c.args.self.now.rest c.in_ok-token.field-0 c.read_token.new.rest c.in-Replaced.call c.in-Replaced.arguments c.in_ok-token.ensures.reading c.in-Replaced.is in
     let waiting : c.put_front.new.self ≡ c.in-Replaced.arguments = c.in_ok-put_front-in-Replaced.ensures ∙ ap (λ (l : List (List Marked)). c.in-Replaced.arguments ++ l) c.new-waiting.ensures ∙ append-nil c.in-Replaced.arguments in
     let lighter : weight_each c.in-Replaced.arguments + length c.read_token.new.rest ≤ length c.args.self.now.rest =
-        reads_lighter c.args.macros.now c.args.first c.args.self.now.rest c.in-Replaced.call c.in-Replaced.arguments c.read_token.new.rest reads in
+    reads_lighter c.args.macros.now c.args.first c.args.self.now.rest c.in-Replaced.call c.in-Replaced.arguments c.read_token.new.rest reads in
     on_ok _ _ c.go_on.result _ _ c.go_on.ensures.within
     (λ within. (within.0, omega (arith, within.1, lighter, ap weight_each waiting, ap length c.replace-in-Replaced.ensures.value)))
 
@@ -98,9 +98,9 @@ returns-in_ok-put_front-in-Replaced-clause-fault c =
     let reads = replaced_reading c.args.macros.now c.args.first c.args.self.now.rest c.in_ok-token.field-0 c.read_token.new.rest c.in-Replaced.call c.in-Replaced.arguments c.in_ok-token.ensures.reading c.in-Replaced.is in
     let waiting : c.put_front.new.self ≡ c.in-Replaced.arguments = c.in_ok-put_front-in-Replaced.ensures ∙ ap (λ (l : List (List Marked)). c.in-Replaced.arguments ++ l) c.new-waiting.ensures ∙ append-nil c.in-Replaced.arguments in
     let moved : Reads c.args.macros.now c.args.first c.args.self.now.rest (replaced frame.call frame.waiting frame.rest) =
-        subst (λ (w : List (List Marked)). Reads c.args.macros.now c.args.first c.args.self.now.rest (replaced c.in-Replaced.call w c.replace-in-Replaced.result)) (sym waiting)
-        (subst (λ (r : List Marked). Reads c.args.macros.now c.args.first c.args.self.now.rest (replaced c.in-Replaced.call c.in-Replaced.arguments r)) (sym c.replace-in-Replaced.ensures.value) reads) in
+    subst (λ (w : List (List Marked)). Reads c.args.macros.now c.args.first c.args.self.now.rest (replaced c.in-Replaced.call w c.replace-in-Replaced.result)) (sym waiting)
+    (subst (λ (r : List Marked). Reads c.args.macros.now c.args.first c.args.self.now.rest (replaced c.in-Replaced.call c.in-Replaced.arguments r)) (sym c.replace-in-Replaced.ensures.value) reads) in
     if_fault _ _ c.go_on.result _ _ c.go_on.ensures.fault
     (λ fault goes before counted calls front rest.
-      comes_moved c.args.macros.now c.args.room c.args.self.now.counted before.counted c.args.self.now.calls before.calls c.replace.result before.done (c.args.first ∷ c.args.self.now.rest) before.rest _ (sym counted) (sym calls) (c.replace.ensures.value ∙ sym front) (sym rest)
-      (replaced_comes c.args.macros.now c.args.room c.args.self.now.counted c.args.self.now.calls c.args.first c.args.self.now.rest frame _ moved c.new.ensures (goes c.args.macros.now)))
+    comes_moved c.args.macros.now c.args.room c.args.self.now.counted before.counted c.args.self.now.calls before.calls c.replace.result before.done (c.args.first ∷ c.args.self.now.rest) before.rest _ (sym counted) (sym calls) (c.replace.ensures.value ∙ sym front) (sym rest)
+    (replaced_comes c.args.macros.now c.args.room c.args.self.now.counted c.args.self.now.calls c.args.first c.args.self.now.rest frame _ moved c.new.ensures (goes c.args.macros.now)))

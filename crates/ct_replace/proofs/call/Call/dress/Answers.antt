@@ -33,7 +33,7 @@ loop-marked-smaller-in-Continue-branch-3 c = search rules
 pub loop-marked-preserved-in-Continue-branch-3 : goal.loop-marked-preserved-in-Continue-branch-3
 loop-marked-preserved-in-Continue-branch-3 c =
     dress_first (dressed c.args.self.now) c.args.self.now.name.token c.loop-marked.put c.push.new.self c.loop-marked.source c.next.new.self c.in-Some.marked c.in_ok-whole.whole c.respaced.result (c.if-is_empty.ensures.0 refl) c.in_ok-push.ensures.ok c.respaced.ensures c.in_ok-whole.ensures
-      c.in-Some.ensures (λ e. false≢true (c.if-not-is_empty.ensures.1 e))
+    c.in-Some.ensures (λ e. false≢true (c.if-not-is_empty.ensures.1 e))
     ∙ c.loop-marked.invariant
 
 pub returns-in_err-push : goal.returns-in_err-push
@@ -51,7 +51,7 @@ loop-marked-smaller-in-Continue-branch-4 c = search rules
 pub loop-marked-preserved-in-Continue-branch-4 : goal.loop-marked-preserved-in-Continue-branch-4
 loop-marked-preserved-in-Continue-branch-4 c =
     dress_next (dressed c.args.self.now) c.args.self.now.name.token c.loop-marked.put c.push-else-is_empty.new.self c.loop-marked.source c.next.new.self c.in-Some.marked c.in_ok-whole.whole (λ e. false≢true (c.if-is_empty.ensures.1 e)) c.in_ok-push-2.ensures.ok c.in_ok-whole.ensures
-      c.in-Some.ensures (λ e. false≢true (c.if-not-is_empty.ensures.1 e))
+    c.in-Some.ensures (λ e. false≢true (c.if-not-is_empty.ensures.1 e))
     ∙ c.loop-marked.invariant
 
 pub returns-in_err-push-2 : goal.returns-in_err-push-2
