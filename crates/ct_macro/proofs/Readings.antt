@@ -1,5 +1,5 @@
 -- What the code reads is a reading of the definition.
-use Rattle.std.proofs.Common.{◌≡◌, ℕ, Bool, true, false, List, [], ◌∷◌, ◌++◌, length, refl, sym, ap, ◌∙◌, subst, ◌⊎◌, inl, inr}
+use Rattle.std.proofs.Common.{◌≡◌, ℕ, Bool, true, false, List, [], ◌∷◌, ◌++◌, length, refl, sym, ap, ◌∙◌, subst, inl, inr}
 use Rattle.std.specs.Prelude.{Option, Some, None, MatchOption, if◌then◌else◌}
 use Rattle.ct_macro.specs.declared.faults.MacroKind.TheVariants.{Arguments, OpenCall}
 use Rattle.ct_replace.specs.declared.definition.Macro.{Macro}
@@ -11,7 +11,7 @@ use Rattle.ct_replace.specs.Calls.{IsCall, IsOpenCall, AreArguments, separators,
 use Rattle.ct_replace.specs.Sets.{common}
 use Rattle.ct_replace.specs.Substitution.{call_of, full_arguments}
 use Rattle.ct_replace.specs.Words.{is_open}
-use Rattle.ct_macro.specs.Expansion.{Use, stays, opened, use_of_macro, Reading, kept, refused, replaced, reading_of_object, reading_of_call, ReadsCall, ReadsUse}
+use Rattle.ct_macro.specs.Expansion.{Use, stays, opened, use_of_macro, Reading, kept, refused, replaced, reading_of_object, reading_of_call, ReadsUse}
 use Rattle.ct_macro.specs.Machine.{StepGives}
 
 -- what is left behind a token that is taken

@@ -1,6 +1,6 @@
 -- The table of macros, seen as the list of its values.
-use Rattle.std.proofs.Common.{◌≡◌, ℕ, ◌+◌, ◌<◌, ◌||◌, Bool, true, false, not, cond, List, [], ◌∷◌, ◌++◌, map, Option, Some, None, length, refl, sym, ap, ◌∙◌, subst, arith}
-use Rattle.std.specs.Prelude.{find, filter, position, nat_eq}
+use Rattle.std.proofs.Common.{◌≡◌, ℕ, ◌+◌, Bool, true, false, cond, List, [], ◌∷◌, ◌++◌, Some, None, refl, sym, ap, ◌∙◌, subst, arith}
+use Rattle.std.specs.Prelude.{position, nat_eq}
 use Rattle.std.specs.List.{list_any, position_or_len}
 use Rattle.std.specs.Map.{lookup, remove_entry, values_of, keys_of}
 use Rattle.std.specs.Str.{bytes_eq}

@@ -1,6 +1,6 @@
 -- A list has one expansion or one first refusal.
-use Rattle.std.proofs.Common.{◌≡◌, ℕ, ◌+◌, ◌<◌, ◌≤◌, Bool, true, false, List, [], ◌∷◌, ◌++◌, length, refl, sym, ap, ◌∙◌, subst, arith, ◌⊎◌, inl, inr}
-use Rattle.std.specs.Prelude.{Option, Some, None}
+use Rattle.std.proofs.Common.{◌≡◌, ℕ, ◌+◌, ◌<◌, ◌≤◌, Bool, true, List, [], ◌∷◌, ◌++◌, length, refl, sym, ap, ◌∙◌, subst, arith, ◌⊎◌, inl, inr}
+use Rattle.std.specs.Prelude.{Option}
 use Rattle.std.proofs.lemmas.Bool.{false≢true}
 use Rattle.ct_macro.specs.declared.faults.MacroFault.{MacroFault}
 use Rattle.ct_macro.specs.declared.faults.MacroKind.{MacroKind}
@@ -8,7 +8,7 @@ use Rattle.ct_macro.specs.declared.faults.MacroKind.TheVariants.{BadPaste, TooLo
 use Rattle.ct_replace.specs.declared.definition.Macro.{Macro}
 use Rattle.ct_replace.specs.declared.marked.Marked.{Marked}
 use Rattle.ct_replace.specs.declared.call.Call.{Call}
-use Rattle.ct_replace.specs.Calls.{IsCall, AreArguments, closes_call, separates, NoneAtLevel, IsLevel, MaySeparate, fewer, arguments_for}
+use Rattle.ct_replace.specs.Calls.{IsCall, AreArguments, closes_call, separates, NoneAtLevel, IsLevel, fewer, arguments_for}
 use Rattle.ct_replace.specs.Substitution.{IsPut}
 use Rattle.ct_macro.specs.Expansion.{Use, stays, object, opened, use_of, Reading, kept, refused, replaced, reading_of_call, ReadsCall, ReadsUse, Reads, Outcome, done, stopped, fault_at, led_by, Expands, nothing, keeps, refuses, replaces, ExpandsEach, none, each, ends, Continues, stops, unpasted, passes, again}
 

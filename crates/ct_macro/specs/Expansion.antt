@@ -1,18 +1,17 @@
 -- The expansion of a list of tokens (C11 6.10.3, 6.10.3.4). Each token carries the macros that may not expand it: where
 -- the standard leaves open whether a name is replaced again, this set decides.
-use Rattle.std.specs.Prelude.{◌≡◌, ℕ, ◌+◌, ◌<◌, ◌≤◌, ◌⊎◌, Bool, true, false, List, [], ◌∷◌, ◌++◌, length, Option, Some, None, map, codes, if◌then◌else◌}
-use Rattle.std.specs.List.{filter_map}
+use Rattle.std.specs.Prelude.{◌≡◌, ℕ, ◌+◌, ◌<◌, ◌≤◌, ◌⊎◌, Bool, true, false, List, [], ◌∷◌, ◌++◌, length, Option, Some, None, map, if◌then◌else◌}
 use Rattle.std.specs.Str.{bytes_eq}
 use Rattle.std.specs.Fmt.{decimal}
 use Rattle.ct_base.specs.declared.lexical.Token.{Token}
 use Rattle.ct_base.specs.declared.lexical.TokenKind.{TokenKind}
-use Rattle.ct_base.specs.declared.lexical.TokenKind.TheVariants.{Name, Number, Char, Text, Punct, Other, Line}
+use Rattle.ct_base.specs.declared.lexical.TokenKind.TheVariants.{Number, Line}
 use Rattle.ct_replace.specs.declared.definition.Macro.{Macro}
 use Rattle.ct_macro.specs.declared.faults.MacroFault.{MacroFault}
 use Rattle.ct_macro.specs.declared.faults.MacroKind.{MacroKind}
 use Rattle.ct_macro.specs.declared.faults.MacroKind.TheVariants.{Arguments, OpenCall, BadPaste, TooLong}
 use Rattle.ct_replace.specs.declared.marked.Marked.{Marked}
-use Rattle.ct_replace.specs.Words.{is_open, line_name, with_variable}
+use Rattle.ct_replace.specs.Words.{is_open, line_name}
 use Rattle.ct_replace.specs.Definition.{is_named}
 use Rattle.ct_replace.specs.Calls.{IsCall, IsOpenCall, AreArguments, separators, arguments_for}
 use Rattle.ct_replace.specs.Sets.{is_in, common}

@@ -1,13 +1,12 @@
 -- How far an expansion has come, and what the rest of it gives. No public clause speaks of it.
-use Rattle.std.specs.Prelude.{◌≡◌, ℕ, ◌+◌, ◌-◌, ◌*◌, ◌<◌, ◌≤◌, List, [], ◌∷◌, ◌++◌, length}
-use Rattle.ct_macro.specs.declared.faults.MacroFault.{MacroFault}
+use Rattle.std.specs.Prelude.{◌≡◌, ℕ, ◌+◌, ◌-◌, ◌*◌, List, [], ◌∷◌, ◌++◌, length}
 use Rattle.ct_replace.specs.declared.definition.Macro.{Macro}
 use Rattle.ct_replace.specs.declared.marked.Marked.{Marked}
 use Rattle.ct_macro.specs.declared.reading.Step.{Step}
 use Rattle.ct_macro.specs.declared.reading.Step.TheVariants as step
 use Rattle.ct_macro.specs.declared.expander.Frame.{Frame}
 use Rattle.ct_macro.specs.declared.expander.Expander.{Expander}
-use Rattle.ct_macro.specs.Expansion.{Reading, kept, refused, replaced, Outcome, done, stopped, Reads, Expands, ExpandsEach, Continues}
+use Rattle.ct_macro.specs.Expansion.{Reading, kept, refused, replaced, Outcome, done, stopped, Expands, ExpandsEach, Continues}
 
 -- the code's answer for a token is this reading; what is left behind it
 abbrev pub StepGives : Marked → List Marked → Step → List Marked → Reading → Type 0

@@ -1,12 +1,11 @@
 -- How the arguments of a call are collected, token by token.
-use Rattle.std.proofs.Common.{◌≡◌, ℕ, ◌+◌, ◌-◌, ◌<◌, Bool, true, false, cond, List, [], ◌∷◌, ◌++◌, Option, Some, None, ◌⊎◌, inl, inr, refl, sym, ap, ◌∙◌, subst, arith, zero-add, append_assoc}
+use Rattle.std.proofs.Common.{◌≡◌, ℕ, ◌+◌, Bool, true, false, List, [], ◌∷◌, ◌++◌, Option, ◌⊎◌, inl, inr, refl, sym, ap, ◌∙◌, subst, arith, append_assoc}
 use Rattle.std.specs.Prelude.{codes}
 use Rattle.std.specs.Str.{bytes_eq}
 use Rattle.std.proofs.lemmas.List.{append-nil}
 use Rattle.std.proofs.lemmas.Grind.{common_steps}
-use Rattle.std.proofs.lemmas.Bool.{false≢true}
 use Rattle.ct_replace.specs.declared.marked.Marked.{Marked}
-use Rattle.ct_replace.specs.Words.{is_open, is_close, is_comma}
+use Rattle.ct_replace.specs.Words.{is_open, is_close}
 use Rattle.ct_replace.specs.Calls.{opens, closes, closes_call, separates, IsLevel, NoneAtLevel, IsCall, MaySeparate, fewer, AreArguments}
 use Rattle.ct_replace.proofs.Texts.{same_text}
 use Rattle.ct_replace.specs.Collected.{Collected, number_of, IsDepthBehind}

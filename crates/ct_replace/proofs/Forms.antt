@@ -1,5 +1,5 @@
 -- What the functions on definitions compute.
-use Rattle.std.proofs.Common.{◌≡◌, ℕ, ◌+◌, ◌-◌, ◌≤◌, ◌||◌, Bool, true, false, List, [], ◌∷◌, length, get_or, refl, sym, ap, ◌∙◌, subst, arith}
+use Rattle.std.proofs.Common.{◌≡◌, ◌-◌, ◌≤◌, ◌||◌, List, [], ◌∷◌, length, get_or, refl, sym, ap, ◌∙◌, arith}
 use Rattle.ct_base.specs.declared.lexical.Token.{Token}
 use Rattle.ct_replace.specs.Words.{is_paste}
 use Rattle.ct_replace.specs.Definition.{ends_in_paste, has_outer_paste}

@@ -1,8 +1,7 @@
 -- The arguments of a call of a function-like macro (C11 6.10.3p4, p10 to p12).
-use Rattle.std.specs.Prelude.{◌≡◌, ℕ, ◌+◌, ◌-◌, ◌<◌, ◌==◌, ◌&&◌, Bool, true, false, List, [], ◌∷◌, ◌++◌, length, count_by, Option, Some, None, if◌then◌else◌}
-use Rattle.ct_replace.specs.declared.definition.Macro.{Macro}
+use Rattle.std.specs.Prelude.{◌≡◌, ℕ, ◌+◌, ◌-◌, ◌<◌, ◌==◌, Bool, true, false, List, [], ◌∷◌, ◌++◌, length, count_by, Option, Some, None, if◌then◌else◌}
 use Rattle.ct_replace.specs.declared.marked.Marked.{Marked}
-use Rattle.ct_replace.specs.Words.{is_open, is_close, is_comma, with_variable}
+use Rattle.ct_replace.specs.Words.{is_open, is_close, is_comma}
 
 abbrev pub opens : List Marked → ℕ
 opens tokens = count_by (λ marked. is_open marked.token) tokens

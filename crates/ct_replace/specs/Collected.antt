@@ -1,5 +1,5 @@
 -- How far the arguments of a call are collected. No public clause speaks of it.
-use Rattle.std.specs.Prelude.{◌≡◌, ℕ, ◌+◌, Bool, true, false, List, [], ◌∷◌, ◌++◌, Option, if◌then◌else◌}
+use Rattle.std.specs.Prelude.{◌≡◌, ℕ, ◌+◌, Bool, true, false, List, ◌++◌, Option}
 use Rattle.ct_base.specs.declared.lexical.Token.{Token}
 use Rattle.ct_replace.specs.declared.marked.Marked.{Marked}
 use Rattle.ct_replace.specs.Words.{is_open, is_close}

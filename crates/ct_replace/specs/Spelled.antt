@@ -3,7 +3,7 @@ use Rattle.std.specs.Prelude.{◌≡◌, ℕ, ◌==◌, ◌||◌, Bool, true, fa
 use Rattle.std.specs.List.{flat_map}
 use Rattle.ct_base.specs.declared.lexical.Token.{Token}
 use Rattle.ct_base.specs.declared.lexical.TokenKind.{TokenKind}
-use Rattle.ct_base.specs.declared.lexical.TokenKind.TheVariants.{Name, Number, Char, Text, Punct, Other, Line}
+use Rattle.ct_base.specs.declared.lexical.TokenKind.TheVariants.{Char, Text, Other}
 use Rattle.ct_token.specs.Lexing.{IsTokenization}
 use Rattle.ct_replace.specs.declared.marked.Marked.{Marked}
 use Rattle.ct_replace.specs.Sets.{common}

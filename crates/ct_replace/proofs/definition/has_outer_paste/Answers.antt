@@ -1,5 +1,4 @@
-use Rattle.std.proofs.Common.{rules, ◌≡◌, ◌||◌, arith}
-use Rattle.std.proofs.lemmas.Grind.{common_steps}
+use Rattle.std.proofs.Common.{arith}
 use Rattle.ct_replace.proofs.Forms.{outer_paste}
 use Rattle.ct_replace.proofs.definition.has_outer_paste.Goals as goal
 

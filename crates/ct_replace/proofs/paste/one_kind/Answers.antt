@@ -1,4 +1,4 @@
-use Rattle.std.proofs.Common.{◌≡◌, List, [], ◌∷◌, subst, sym}
+use Rattle.std.proofs.Common.{List, [], ◌∷◌, subst, sym}
 use Rattle.ct_base.specs.declared.lexical.Token.{Token}
 use Rattle.ct_token.specs.Lexing.{IsTokenization}
 use Rattle.ct_replace.proofs.Pasting.{kind_found}

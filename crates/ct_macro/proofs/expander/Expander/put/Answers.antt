@@ -1,17 +1,10 @@
-use Rattle.std.proofs.Common.{rules, ◌≡◌, ◌∷◌, ◌++◌, [], ℕ, ◌+◌, ◌-◌, ◌*◌, ◌<◌, ◌≤◌, List, length, ap, refl, sym, subst, ◌∙◌, arith}
+use Rattle.std.proofs.Common.{rules, ◌++◌, ◌+◌, ◌<◌, ◌≤◌, List, length, ap, refl, sym, subst, arith}
 use Rattle.ct_replace.specs.declared.marked.Marked.{Marked}
-use Rattle.std.proofs.lemmas.Bool.{false≢true}
-use Rattle.std.proofs.lemmas.List.{append-nil}
-use Rattle.std.proofs.lemmas.Result.{IfOk-weaker}
-use Rattle.std.proofs.Common.{length-append}
-use Rattle.ct_base.specs.declared.memory.Fail.TheVariants.{Fault}
 use Rattle.ct_macro.specs.declared.faults.MacroKind.TheVariants.{BadPaste, TooLong}
-use Rattle.ct_macro.specs.declared.expander.Frame.{Frame}
 use Rattle.ct_replace.specs.Substitution.{IsPut}
-use Rattle.ct_macro.specs.Expansion.{Reads, replaced, fault_at}
+use Rattle.ct_macro.specs.Expansion.{fault_at}
 use Rattle.ct_macro.specs.Machine.{weight_each, weight_frames}
-use Rattle.ct_macro.proofs.Weights.{reads_lighter}
-use Rattle.ct_macro.proofs.Steps.{on_ok, if_fault, fault_is, kept_reading, refused_reading, replaced_reading, comes_moved, waits_moved, kept_comes, refused_comes, replaced_comes, ended_comes, finished_comes, argument_goes, put_goes, unpasted_goes, too_long_goes, put_lighter}
+use Rattle.ct_macro.proofs.Steps.{fault_is, comes_moved, put_goes, unpasted_goes, too_long_goes, put_lighter}
 use Rattle.ct_macro.proofs.expander.Expander.put.Goals as goal
 
 pub returns-in_err-put-clause-ok : goal.returns-in_err-put-clause-ok

@@ -1,5 +1,4 @@
-use Rattle.std.proofs.Common.{rules, ◌≡◌, ◌∷◌, ◌++◌, [], List, length, ap, refl, sym, subst, ◌∙◌, arith}
-use Rattle.ct_replace.specs.declared.marked.Marked.{Marked}
+use Rattle.std.proofs.Common.{rules, refl, ◌∙◌}
 use Rattle.std.proofs.lemmas.Bool.{false≢true}
 use Rattle.ct_replace.specs.Substitution.{dressed}
 use Rattle.ct_replace.proofs.Substituting.{dress_begins, dress_first, dress_next, dress_none, dress_ends}

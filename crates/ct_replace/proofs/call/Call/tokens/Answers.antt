@@ -1,5 +1,4 @@
-use Rattle.std.proofs.Common.{rules, ◌≡◌, ◌∷◌, ◌++◌, [], List, length, ap, refl, sym, subst, ◌∙◌, arith}
-use Rattle.ct_replace.specs.declared.marked.Marked.{Marked}
+use Rattle.std.proofs.Common.{rules, refl}
 use Rattle.ct_replace.specs.Substitution.{tokens_at}
 use Rattle.ct_replace.proofs.Substituting.{put_begins, pasted_on, plain_on, never_on, all_on}
 use Rattle.ct_replace.proofs.call.Call.tokens.Goals as goal

@@ -1,6 +1,6 @@
-use Rattle.std.proofs.Common.{refl, List, ◌∷◌, [], ◌++◌, sym, subst}
+use Rattle.std.proofs.Common.{refl, List, sym, subst}
 use Rattle.ct_replace.specs.declared.marked.Marked.{Marked}
-use Rattle.ct_replace.specs.Calls.{IsCall, AreArguments}
+use Rattle.ct_replace.specs.Calls.{AreArguments}
 use Rattle.ct_replace.proofs.Collecting.{closed}
 use Rattle.ct_replace.proofs.calls.Collector.closed.Goals as goal
 

@@ -1,8 +1,6 @@
-use Rattle.std.proofs.Common.{◌≡◌, false, refl, ◌∙◌, sym, subst, arith, List, ◌∷◌, [], ◌++◌, ap, Option, ℕ}
+use Rattle.std.proofs.Common.{◌≡◌, false, refl, ◌∙◌, sym, arith}
 use Rattle.std.proofs.lemmas.Bool.{false≢true}
-use Rattle.ct_replace.specs.declared.marked.Marked.{Marked}
-use Rattle.ct_replace.specs.Calls.{MaySeparate, separates, fewer}
-use Rattle.ct_replace.specs.Collected.{Collected}
+use Rattle.ct_replace.specs.Calls.{MaySeparate, separates}
 use Rattle.ct_replace.proofs.Collecting.{pushed, cut}
 use Rattle.ct_replace.proofs.calls.Collector.take.Goals as goal
 use Rattle.ct_replace.proofs.calls.Collector.take.Goals.{In_ok-push-2, else-self-eq0-via-then-self-eq0+then-is_comma+else-may_separate, else-self-eq0-via-then-self-eq0+else-is_comma, else-self-eq0-via-else-self-eq0}
