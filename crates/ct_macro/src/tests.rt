@@ -404,18 +404,32 @@ type Refused = (
     Option<(MacroKind, &'static [u8], u32)>,
 );
 
+/// The first refusal of a text, where replacements may put so many tokens.
+fn refusal_of(
+    rt: &(impl Abort + AllocGlobal),
+    macros: &Macros,
+    text: &[u8],
+    room: u64,
+) -> Result<Option<MacroFault>, TestFail> {
+    let list = tokens_of(rt, text)?;
+    match expand(rt.alloc(), macros, list.as_slice(), room) {
+        Ok(_) => Ok(None),
+        Err(Fail::OutOfMemory) => Err("no memory".into()),
+        Err(Fail::Fault(fault)) => Ok(Some(fault)),
+    }
+}
+
 /// Compares the first refusal of a text.
 fn compare_refusal(rt: &(impl Abort + AllocGlobal), row: &Refused) -> Result<(), TestFail> {
-    let macros = table_of(rt, row.0)?;
-    let list = tokens_of(rt, row.1)?;
-    match expand(rt.alloc(), &macros, list.as_slice(), row.2) {
-        Ok(_) => assert!(rt; row.3.is_none(), "at {row:?}"),
-        Err(Fail::OutOfMemory) => assert!(rt; false, "no memory"),
-        Err(Fail::Fault(fault)) => {
-            let found = (fault.kind, fault.name.as_slice(), fault.line);
-            assert_eq!(rt; Some(found), row.3, "at {row:?}");
-        }
-    }
+    let found = refusal_of(rt, &table_of(rt, row.0)?, row.1, row.2)?;
+    let Some((kind, name, line)) = row.3 else {
+        assert!(rt; found.is_none(), "at {row:?}");
+        return Ok(());
+    };
+    let fault = found.ok_or("no refusal")?;
+    assert_eq!(rt; fault.kind, kind, "at {row:?}");
+    assert_eq!(rt; fault.name.as_slice(), name, "at {row:?}");
+    assert_eq!(rt; fault.line, line, "at {row:?}");
     Ok(())
 }
 
