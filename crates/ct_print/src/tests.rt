@@ -11,9 +11,8 @@ use ct_syntax::{
     BlockItem, Declaration, Declarator, Expr, InitDeclarator, Initialiser, Item, Spec, SpecWord,
     Statement, Tree,
 };
-
 use std::alloc::Global;
-use std::test::Fail;
+use std::process::Abort;
 
 /// The place of each node.
 const AT: Span = Span { file: 0, line: 1 };
@@ -71,12 +70,24 @@ fn unit(alloc: Global, item: Item) -> Mem<Tree> {
     })
 }
 
-/// The text of an item.
-fn printed(alloc: Global, item: Item) -> Mem<Vec<u8>> {
-    let tree = unit(alloc, item)?;
+/// The text of an item that was made.
+fn printed(alloc: Global, item: Mem<Item>) -> Mem<Vec<u8>> {
+    let tree = unit(alloc, item?)?;
     let mut text = Vec::new(alloc);
     print(alloc, &tree, &mut text)?;
     Ok(text)
+}
+
+/// The text of a declaration that was made.
+fn printed_declaration(alloc: Global, declaration: Mem<Declaration>) -> Mem<Vec<u8>> {
+    printed(alloc, Ok(Item::Declaration(declaration?)))
+}
+
+/// Stops the test where a text is not the one that is wanted.
+fn compare(rt: &impl Abort, text: Mem<Vec<u8>>, wanted: &str) -> Mem<()> {
+    let text = text?;
+    assert_eq!(rt; text.as_slice(), wanted.as_bytes());
+    Ok(())
 }
 
 /// `return 1 ;`
@@ -85,24 +96,37 @@ fn returned_one(alloc: Global) -> Mem<BlockItem> {
     Ok(BlockItem::Statement(Statement::Return(AT, Some(one))))
 }
 
-#[test]
-fn a_function_has_its_lines_behind_what_stood_there(rt: HostRuntime) -> Result<(), Fail> {
-    let alloc = rt.alloc();
+/// The text of `int f ( void ) { return 1 ; }` behind another text.
+fn printed_behind(alloc: Global, text: &str) -> Mem<Vec<u8>> {
     let tree = unit(alloc, defined(alloc, returned_one(alloc)?)?)?;
-    let mut text = Vec::from_slice(alloc, b"old ")?;
+    let mut text = Vec::from_slice(alloc, text.as_bytes())?;
     print(alloc, &tree, &mut text)?;
-    assert_eq!(rt; text.as_slice(), b"old int f ( void ) {\nreturn 1 ;\n}\n".as_slice());
-    Ok(())
+    Ok(text)
 }
 
 #[test]
-fn items_stand_in_order(rt: HostRuntime) -> Result<(), Fail> {
-    let alloc = rt.alloc();
+fn a_function_has_its_lines_behind_what_stood_there(rt: HostRuntime) -> Mem<()> {
+    let text = printed_behind(rt.alloc(), "old ");
+    compare(&rt, text, "old int f ( void ) {\nreturn 1 ;\n}\n")
+}
+
+/// `; int x ;`
+fn two_items(alloc: Global) -> Mem<Tree> {
     let mut tree = unit(alloc, Item::Empty(AT))?;
     let declaration = declared(alloc, bare(called(alloc, "x")?))?;
     tree.items.push(Item::Declaration(declaration))?;
+    Ok(tree)
+}
+
+/// The text of two items.
+fn printed_items(alloc: Global) -> Mem<Vec<u8>> {
+    let tree = two_items(alloc)?;
     let mut text = Vec::new(alloc);
     print(alloc, &tree, &mut text)?;
-    assert_eq!(rt; text.as_slice(), b";\nint x ;\n".as_slice());
-    Ok(())
+    Ok(text)
+}
+
+#[test]
+fn items_stand_in_order(rt: HostRuntime) -> Mem<()> {
+    compare(&rt, printed_items(rt.alloc()), ";\nint x ;\n")
 }

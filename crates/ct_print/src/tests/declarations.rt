@@ -1,18 +1,14 @@
 //! Declarations, specifiers, declarators and initialisers.
 
-use super::{AT, bare, boxed, bytes, called, declared, name, printed, started, word};
+use super::{
+    AT, bare, boxed, bytes, called, compare, declared, name, printed_declaration, started, word,
+};
 use ct_base::{Items, Mem};
 use ct_syntax::{
     Declaration, Declarator, Designator, Enumerator, Expr, InitDeclarator, Initialiser,
-    InitialiserItem, Item, Member, Parameter, ParameterForm, Qualifier, Spec, SpecWord,
+    InitialiserItem, Member, Parameter, ParameterForm, Qualifier, Spec, SpecWord,
 };
 use std::alloc::Global;
-use std::test::Fail;
-
-/// The text of a declaration.
-fn printed_declaration(alloc: Global, declaration: Declaration) -> Mem<Vec<u8>> {
-    printed(alloc, Item::Declaration(declaration))
-}
 
 /// Each specifier of one word.
 fn each_word(alloc: Global) -> Mem<Vec<Spec>> {
@@ -142,13 +138,19 @@ fn specifiers(alloc: Global, row: usize) -> Mem<Vec<Spec>> {
     }
 }
 
+/// Specifiers and `;`, by their row.
+fn specified(alloc: Global, row: usize) -> Mem<Declaration> {
+    Ok(Declaration::Declare(AT, specifiers(alloc, row)?, Vec::new(alloc)))
+}
+
 #[test]
-fn each_specifier_has_its_tokens(rt: HostRuntime) -> Result<(), Fail> {
-    let alloc = rt.alloc();
+fn each_specifier_has_its_tokens(rt: HostRuntime) -> Mem<()> {
     for (row, wanted) in SPECS.iter().enumerate() {
-        let declaration = Declaration::Declare(AT, specifiers(alloc, row)?, Vec::new(alloc));
-        let text = printed_declaration(alloc, declaration)?;
-        assert_eq!(rt; text.as_slice(), wanted.as_bytes());
+        compare(
+            &rt,
+            printed_declaration(rt.alloc(), specified(rt.alloc(), row)),
+            wanted,
+        )?;
     }
     Ok(())
 }
@@ -276,13 +278,19 @@ fn declarator(alloc: Global, row: usize) -> Mem<Declarator> {
     }
 }
 
+/// The declaration of a declarator, by its row.
+fn declared_row(alloc: Global, row: usize) -> Mem<Declaration> {
+    declared(alloc, bare(declarator(alloc, row)?))
+}
+
 #[test]
-fn each_declarator_has_its_tokens(rt: HostRuntime) -> Result<(), Fail> {
-    let alloc = rt.alloc();
+fn each_declarator_has_its_tokens(rt: HostRuntime) -> Mem<()> {
     for (row, wanted) in DECLARATORS.iter().enumerate() {
-        let declaration = declared(alloc, bare(declarator(alloc, row)?))?;
-        let text = printed_declaration(alloc, declaration)?;
-        assert_eq!(rt; text.as_slice(), wanted.as_bytes());
+        compare(
+            &rt,
+            printed_declaration(rt.alloc(), declared_row(rt.alloc(), row)),
+            wanted,
+        )?;
     }
     Ok(())
 }
@@ -324,13 +332,6 @@ fn full_list(alloc: Global) -> Mem<Initialiser> {
     Ok(Initialiser::List(AT, items, true))
 }
 
-const INITIALISERS: [&str; 4] = [
-    "int x = a ;\n",
-    "int x = {\n}\n;\n",
-    "int x = {\na }\n;\n",
-    "int x = {\na , . m = b , [ c ] = {\n}\n, }\n;\n",
-];
-
 /// An initialiser, by its row.
 fn initialiser(alloc: Global, row: usize) -> Mem<Initialiser> {
     match row {
@@ -339,17 +340,6 @@ fn initialiser(alloc: Global, row: usize) -> Mem<Initialiser> {
         2 => Ok(Initialiser::List(AT, vec![in alloc; next(alloc)?]?, false)),
         _ => full_list(alloc),
     }
-}
-
-#[test]
-fn each_initialiser_has_its_tokens(rt: HostRuntime) -> Result<(), Fail> {
-    let alloc = rt.alloc();
-    for (row, wanted) in INITIALISERS.iter().enumerate() {
-        let declaration = declared(alloc, started(alloc, initialiser(alloc, row)?)?)?;
-        let text = printed_declaration(alloc, declaration)?;
-        assert_eq!(rt; text.as_slice(), wanted.as_bytes());
-    }
-    Ok(())
 }
 
 /// `x = a , b`
@@ -372,16 +362,37 @@ fn asserted(alloc: Global) -> Mem<Declaration> {
     Ok(Declaration::Assert(AT, name(alloc, "a")?, text))
 }
 
-#[test]
-fn declarators_stand_in_order(rt: HostRuntime) -> Result<(), Fail> {
-    let text = printed_declaration(rt.alloc(), two_declared(rt.alloc())?)?;
-    assert_eq!(rt; text.as_slice(), b"int x = a , b ;\n".as_slice());
-    Ok(())
+/// The declaration with an initialiser, by its row.
+fn started_row(alloc: Global, row: usize) -> Mem<Declaration> {
+    declared(alloc, started(alloc, initialiser(alloc, row)?)?)
+}
+
+const DECLARATIONS: [&str; 6] = [
+    "int x = a ;\n",
+    "int x = {\n}\n;\n",
+    "int x = {\na }\n;\n",
+    "int x = {\na , . m = b , [ c ] = {\n}\n, }\n;\n",
+    "int x = a , b ;\n",
+    "_Static_assert ( a , \"no\" ) ;\n",
+];
+
+/// A declaration, by its row.
+fn declaration(alloc: Global, row: usize) -> Mem<Declaration> {
+    match row {
+        0..=3 => started_row(alloc, row),
+        4 => two_declared(alloc),
+        _ => asserted(alloc),
+    }
 }
 
 #[test]
-fn an_assertion_has_its_tokens(rt: HostRuntime) -> Result<(), Fail> {
-    let text = printed_declaration(rt.alloc(), asserted(rt.alloc())?)?;
-    assert_eq!(rt; text.as_slice(), b"_Static_assert ( a , \"no\" ) ;\n".as_slice());
+fn each_declaration_has_its_tokens(rt: HostRuntime) -> Mem<()> {
+    for (row, wanted) in DECLARATIONS.iter().enumerate() {
+        compare(
+            &rt,
+            printed_declaration(rt.alloc(), declaration(rt.alloc(), row)),
+            wanted,
+        )?;
+    }
     Ok(())
 }

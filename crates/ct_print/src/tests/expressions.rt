@@ -1,17 +1,16 @@
 //! Expressions.
 
-use super::{AT, boxed, bytes, declared, name, printed, started, word};
+use super::{AT, boxed, bytes, compare, declared, name, printed_declaration, started, word};
 use ct_base::{BinaryOp, Bytes, Items, Mem};
 use ct_syntax::{
-    AssignOp, Declarator, Expr, InfixOp, Initialiser, Item, MemberOp, PrefixOp, SpecWord, StepOp,
+    AssignOp, Declarator, Expr, InfixOp, Initialiser, MemberOp, PrefixOp, SpecWord, StepOp,
 };
 use std::alloc::Global;
-use std::test::Fail;
 
-/// The text of `int x = value ;`.
-fn printed_value(alloc: Global, value: Expr) -> Mem<Vec<u8>> {
-    let start = started(alloc, Initialiser::Value(AT, value))?;
-    printed(alloc, Item::Declaration(declared(alloc, start)?))
+/// The text of `int x = value ;`, with a value that was made.
+fn printed_value(alloc: Global, value: Mem<Expr>) -> Mem<Vec<u8>> {
+    let start = started(alloc, Initialiser::Value(AT, value?))?;
+    printed_declaration(alloc, declared(alloc, start))
 }
 
 fn infix(alloc: Global, op: InfixOp) -> Mem<Expr> {
@@ -19,34 +18,38 @@ fn infix(alloc: Global, op: InfixOp) -> Mem<Expr> {
     Ok(Expr::Infix(AT, op, left, boxed(alloc, "b")?))
 }
 
-fn infix_rows() -> [(InfixOp, &'static str); 18] {
-    [
-        (InfixOp::Number(BinaryOp::Multiply), "int x = a * b ;\n"),
-        (InfixOp::Number(BinaryOp::Divide), "int x = a / b ;\n"),
-        (InfixOp::Number(BinaryOp::Remainder), "int x = a % b ;\n"),
-        (InfixOp::Number(BinaryOp::Add), "int x = a + b ;\n"),
-        (InfixOp::Number(BinaryOp::Subtract), "int x = a - b ;\n"),
-        (InfixOp::Number(BinaryOp::ShiftLeft), "int x = a << b ;\n"),
-        (InfixOp::Number(BinaryOp::ShiftRight), "int x = a >> b ;\n"),
-        (InfixOp::Number(BinaryOp::Less), "int x = a < b ;\n"),
-        (InfixOp::Number(BinaryOp::Greater), "int x = a > b ;\n"),
-        (InfixOp::Number(BinaryOp::LessEqual), "int x = a <= b ;\n"),
-        (InfixOp::Number(BinaryOp::GreaterEqual), "int x = a >= b ;\n"),
-        (InfixOp::Number(BinaryOp::Equal), "int x = a == b ;\n"),
-        (InfixOp::Number(BinaryOp::NotEqual), "int x = a != b ;\n"),
-        (InfixOp::Number(BinaryOp::And), "int x = a & b ;\n"),
-        (InfixOp::Number(BinaryOp::Xor), "int x = a ^ b ;\n"),
-        (InfixOp::Number(BinaryOp::Or), "int x = a | b ;\n"),
-        (InfixOp::LogicalAnd, "int x = a && b ;\n"),
-        (InfixOp::LogicalOr, "int x = a || b ;\n"),
-    ]
-}
+const INFIX: [(InfixOp, &str); 18] = [
+    (InfixOp::Number(BinaryOp::Multiply), "int x = a * b ;\n"),
+    (InfixOp::Number(BinaryOp::Divide), "int x = a / b ;\n"),
+    (InfixOp::Number(BinaryOp::Remainder), "int x = a % b ;\n"),
+    (InfixOp::Number(BinaryOp::Add), "int x = a + b ;\n"),
+    (InfixOp::Number(BinaryOp::Subtract), "int x = a - b ;\n"),
+    (InfixOp::Number(BinaryOp::ShiftLeft), "int x = a << b ;\n"),
+    (InfixOp::Number(BinaryOp::ShiftRight), "int x = a >> b ;\n"),
+    (InfixOp::Number(BinaryOp::Less), "int x = a < b ;\n"),
+    (InfixOp::Number(BinaryOp::Greater), "int x = a > b ;\n"),
+    (InfixOp::Number(BinaryOp::LessEqual), "int x = a <= b ;\n"),
+    (
+        InfixOp::Number(BinaryOp::GreaterEqual),
+        "int x = a >= b ;\n",
+    ),
+    (InfixOp::Number(BinaryOp::Equal), "int x = a == b ;\n"),
+    (InfixOp::Number(BinaryOp::NotEqual), "int x = a != b ;\n"),
+    (InfixOp::Number(BinaryOp::And), "int x = a & b ;\n"),
+    (InfixOp::Number(BinaryOp::Xor), "int x = a ^ b ;\n"),
+    (InfixOp::Number(BinaryOp::Or), "int x = a | b ;\n"),
+    (InfixOp::LogicalAnd, "int x = a && b ;\n"),
+    (InfixOp::LogicalOr, "int x = a || b ;\n"),
+];
 
 #[test]
-fn each_operator_stands_between_its_operands(rt: HostRuntime) -> Result<(), Fail> {
-    for (op, wanted) in infix_rows() {
-        let text = printed_value(rt.alloc(), infix(rt.alloc(), op)?)?;
-        assert_eq!(rt; text.as_slice(), wanted.as_bytes());
+fn each_operator_stands_between_its_operands(rt: HostRuntime) -> Mem<()> {
+    for (op, wanted) in &INFIX {
+        compare(
+            &rt,
+            printed_value(rt.alloc(), infix(rt.alloc(), *op)),
+            wanted,
+        )?;
     }
     Ok(())
 }
@@ -56,27 +59,28 @@ fn assigned(alloc: Global, op: AssignOp) -> Mem<Expr> {
     Ok(Expr::Assign(AT, op, left, boxed(alloc, "b")?))
 }
 
-fn assignment_rows() -> [(AssignOp, &'static str); 11] {
-    [
-        (AssignOp::Plain, "int x = a = b ;\n"),
-        (AssignOp::Multiply, "int x = a *= b ;\n"),
-        (AssignOp::Divide, "int x = a /= b ;\n"),
-        (AssignOp::Remainder, "int x = a %= b ;\n"),
-        (AssignOp::Add, "int x = a += b ;\n"),
-        (AssignOp::Subtract, "int x = a -= b ;\n"),
-        (AssignOp::ShiftLeft, "int x = a <<= b ;\n"),
-        (AssignOp::ShiftRight, "int x = a >>= b ;\n"),
-        (AssignOp::And, "int x = a &= b ;\n"),
-        (AssignOp::Xor, "int x = a ^= b ;\n"),
-        (AssignOp::Or, "int x = a |= b ;\n"),
-    ]
-}
+const ASSIGNMENTS: [(AssignOp, &str); 11] = [
+    (AssignOp::Plain, "int x = a = b ;\n"),
+    (AssignOp::Multiply, "int x = a *= b ;\n"),
+    (AssignOp::Divide, "int x = a /= b ;\n"),
+    (AssignOp::Remainder, "int x = a %= b ;\n"),
+    (AssignOp::Add, "int x = a += b ;\n"),
+    (AssignOp::Subtract, "int x = a -= b ;\n"),
+    (AssignOp::ShiftLeft, "int x = a <<= b ;\n"),
+    (AssignOp::ShiftRight, "int x = a >>= b ;\n"),
+    (AssignOp::And, "int x = a &= b ;\n"),
+    (AssignOp::Xor, "int x = a ^= b ;\n"),
+    (AssignOp::Or, "int x = a |= b ;\n"),
+];
 
 #[test]
-fn each_assignment_has_its_operator(rt: HostRuntime) -> Result<(), Fail> {
-    for (op, wanted) in assignment_rows() {
-        let text = printed_value(rt.alloc(), assigned(rt.alloc(), op)?)?;
-        assert_eq!(rt; text.as_slice(), wanted.as_bytes());
+fn each_assignment_has_its_operator(rt: HostRuntime) -> Mem<()> {
+    for (op, wanted) in &ASSIGNMENTS {
+        compare(
+            &rt,
+            printed_value(rt.alloc(), assigned(rt.alloc(), *op)),
+            wanted,
+        )?;
     }
     Ok(())
 }
@@ -85,18 +89,23 @@ fn unary(alloc: Global, op: PrefixOp) -> Mem<Expr> {
     Ok(Expr::Unary(AT, op, boxed(alloc, "a")?))
 }
 
+const PREFIX: [(PrefixOp, &str); 6] = [
+    (PrefixOp::Address, "int x = & a ;\n"),
+    (PrefixOp::Dereference, "int x = * a ;\n"),
+    (PrefixOp::Plus, "int x = + a ;\n"),
+    (PrefixOp::Minus, "int x = - a ;\n"),
+    (PrefixOp::Complement, "int x = ~ a ;\n"),
+    (PrefixOp::Not, "int x = ! a ;\n"),
+];
+
 #[test]
-fn each_operator_stands_before_its_operand(rt: HostRuntime) -> Result<(), Fail> {
-    for (op, wanted) in [
-        (PrefixOp::Address, "int x = & a ;\n"),
-        (PrefixOp::Dereference, "int x = * a ;\n"),
-        (PrefixOp::Plus, "int x = + a ;\n"),
-        (PrefixOp::Minus, "int x = - a ;\n"),
-        (PrefixOp::Complement, "int x = ~ a ;\n"),
-        (PrefixOp::Not, "int x = ! a ;\n"),
-    ] {
-        let text = printed_value(rt.alloc(), unary(rt.alloc(), op)?)?;
-        assert_eq!(rt; text.as_slice(), wanted.as_bytes());
+fn each_operator_stands_before_its_operand(rt: HostRuntime) -> Mem<()> {
+    for (op, wanted) in &PREFIX {
+        compare(
+            &rt,
+            printed_value(rt.alloc(), unary(rt.alloc(), *op)),
+            wanted,
+        )?;
     }
     Ok(())
 }
@@ -175,16 +184,6 @@ fn conditional(alloc: Global) -> Mem<Expr> {
     Ok(Expr::Conditional(AT, test, yes, no))
 }
 
-const PRIMARY: [&str; 7] = [
-    "int x = a ;\n",
-    "int x = 1 ;\n",
-    "int x = 'c' ;\n",
-    "int x = \"s\" ;\n",
-    "int x = \"s\" \"t\" \"u\" ;\n",
-    "int x = ( a ) ;\n",
-    "int x = ( a , b ) ;\n",
-];
-
 /// A primary expression, by its row.
 fn primary(alloc: Global, row: usize) -> Mem<Expr> {
     match row {
@@ -198,16 +197,40 @@ fn primary(alloc: Global, row: usize) -> Mem<Expr> {
     }
 }
 
-#[test]
-fn each_primary_expression_has_its_tokens(rt: HostRuntime) -> Result<(), Fail> {
-    for (row, wanted) in PRIMARY.iter().enumerate() {
-        let text = printed_value(rt.alloc(), primary(rt.alloc(), row)?)?;
-        assert_eq!(rt; text.as_slice(), wanted.as_bytes());
+/// A postfix expression, by its row.
+fn postfix(alloc: Global, row: usize) -> Mem<Expr> {
+    match row {
+        7 => indexed(alloc),
+        8 => call(alloc, Vec::new(alloc)),
+        9 => call(alloc, vec![in alloc; name(alloc, "a")?]?),
+        10 => call(alloc, two_names(alloc)?),
+        11 => member(alloc, MemberOp::Dot),
+        12 => member(alloc, MemberOp::Arrow),
+        13 => Ok(Expr::Postfix(AT, boxed(alloc, "a")?, StepOp::Increment)),
+        _ => Ok(Expr::Postfix(AT, boxed(alloc, "a")?, StepOp::Decrement)),
     }
-    Ok(())
 }
 
-const POSTFIX: [&str; 8] = [
+/// An expression that begins with a word before its operand, or a conditional, by its row.
+fn other(alloc: Global, row: usize) -> Mem<Expr> {
+    match row {
+        15 => Ok(Expr::Prefix(AT, StepOp::Increment, boxed(alloc, "a")?)),
+        16 => Ok(Expr::Prefix(AT, StepOp::Decrement, boxed(alloc, "a")?)),
+        17 => Ok(Expr::SizeofValue(AT, boxed(alloc, "a")?)),
+        18 => sizeof_type(alloc),
+        19 => cast(alloc),
+        _ => conditional(alloc),
+    }
+}
+
+const EXPRESSIONS: [&str; 21] = [
+    "int x = a ;\n",
+    "int x = 1 ;\n",
+    "int x = 'c' ;\n",
+    "int x = \"s\" ;\n",
+    "int x = \"s\" \"t\" \"u\" ;\n",
+    "int x = ( a ) ;\n",
+    "int x = ( a , b ) ;\n",
     "int x = a [ b ] ;\n",
     "int x = g ( ) ;\n",
     "int x = g ( a ) ;\n",
@@ -216,32 +239,6 @@ const POSTFIX: [&str; 8] = [
     "int x = a -> m ;\n",
     "int x = a ++ ;\n",
     "int x = a -- ;\n",
-];
-
-/// A postfix expression, by its row.
-fn postfix(alloc: Global, row: usize) -> Mem<Expr> {
-    match row {
-        0 => indexed(alloc),
-        1 => call(alloc, Vec::new(alloc)),
-        2 => call(alloc, vec![in alloc; name(alloc, "a")?]?),
-        3 => call(alloc, two_names(alloc)?),
-        4 => member(alloc, MemberOp::Dot),
-        5 => member(alloc, MemberOp::Arrow),
-        6 => Ok(Expr::Postfix(AT, boxed(alloc, "a")?, StepOp::Increment)),
-        _ => Ok(Expr::Postfix(AT, boxed(alloc, "a")?, StepOp::Decrement)),
-    }
-}
-
-#[test]
-fn each_postfix_expression_has_its_tokens(rt: HostRuntime) -> Result<(), Fail> {
-    for (row, wanted) in POSTFIX.iter().enumerate() {
-        let text = printed_value(rt.alloc(), postfix(rt.alloc(), row)?)?;
-        assert_eq!(rt; text.as_slice(), wanted.as_bytes());
-    }
-    Ok(())
-}
-
-const UNARY: [&str; 6] = [
     "int x = ++ a ;\n",
     "int x = -- a ;\n",
     "int x = sizeof a ;\n",
@@ -250,23 +247,23 @@ const UNARY: [&str; 6] = [
     "int x = a ? b : c ;\n",
 ];
 
-/// An expression that begins with a word before its operand, or a conditional, by its row.
-fn other(alloc: Global, row: usize) -> Mem<Expr> {
+/// An expression, by its row.
+fn expression(alloc: Global, row: usize) -> Mem<Expr> {
     match row {
-        0 => Ok(Expr::Prefix(AT, StepOp::Increment, boxed(alloc, "a")?)),
-        1 => Ok(Expr::Prefix(AT, StepOp::Decrement, boxed(alloc, "a")?)),
-        2 => Ok(Expr::SizeofValue(AT, boxed(alloc, "a")?)),
-        3 => sizeof_type(alloc),
-        4 => cast(alloc),
-        _ => conditional(alloc),
+        0..=6 => primary(alloc, row),
+        7..=14 => postfix(alloc, row),
+        _ => other(alloc, row),
     }
 }
 
 #[test]
-fn each_other_expression_has_its_tokens(rt: HostRuntime) -> Result<(), Fail> {
-    for (row, wanted) in UNARY.iter().enumerate() {
-        let text = printed_value(rt.alloc(), other(rt.alloc(), row)?)?;
-        assert_eq!(rt; text.as_slice(), wanted.as_bytes());
+fn each_expression_has_its_tokens(rt: HostRuntime) -> Mem<()> {
+    for (row, wanted) in EXPRESSIONS.iter().enumerate() {
+        compare(
+            &rt,
+            printed_value(rt.alloc(), expression(rt.alloc(), row)),
+            wanted,
+        )?;
     }
     Ok(())
 }

@@ -1,13 +1,12 @@
 //! Statements.
 
-use super::{AT, bare, called, declared, name, printed, word};
+use super::{AT, bare, called, compare, declared, name, printed, word};
 use ct_base::Mem;
 use ct_syntax::{
     Block, BlockItem, Branch, Declaration, Declarator, Expr, ForStart, Item, ParameterForm,
     SpecWord, Statement,
 };
 use std::alloc::Global;
-use std::test::Fail;
 
 /// A block of one part.
 fn block(alloc: Global, part: BlockItem) -> Mem<Block> {
@@ -96,12 +95,17 @@ fn tested_behind(alloc: Global) -> Mem<Statement> {
     Ok(Statement::Do(AT, body, name(alloc, "a")?))
 }
 
-/// A `for` with `a` and `b` behind its start, or nothing but the start.
-fn counted(alloc: Global, start: ForStart) -> Mem<Statement> {
+/// A `for` with a test.
+fn tested(alloc: Global, start: ForStart) -> Mem<Statement> {
     let test = name(alloc, "a")?;
+    Ok(Statement::For(AT, start, Some(test), None, boxed_run(alloc, "c")?))
+}
+
+/// `for ( i ; ; b ) c ;`
+fn counted(alloc: Global) -> Mem<Statement> {
+    let start = ForStart::Value(Some(name(alloc, "i")?));
     let after = name(alloc, "b")?;
-    let body = boxed_run(alloc, "c")?;
-    Ok(Statement::For(AT, start, Some(test), Some(after), body))
+    Ok(Statement::For(AT, start, None, Some(after), boxed_run(alloc, "c")?))
 }
 
 /// `for ( ; ; ) c ;`
@@ -114,7 +118,8 @@ fn endless(alloc: Global) -> Mem<Statement> {
 fn labelled(alloc: Global) -> Mem<Block> {
     let mut body = block(alloc, BlockItem::Case(AT, name(alloc, "A")?))?;
     body.items.push(BlockItem::Default(AT))?;
-    body.items.push(BlockItem::Declaration(declaration(alloc)?))?;
+    body.items
+        .push(BlockItem::Declaration(declaration(alloc)?))?;
     body.items.push(BlockItem::Statement(Statement::Break(AT)))?;
     Ok(body)
 }
@@ -123,17 +128,6 @@ fn labelled(alloc: Global) -> Mem<Block> {
 fn choice(alloc: Global, body: Block) -> Mem<Statement> {
     Ok(Statement::Switch(AT, name(alloc, "a")?, body))
 }
-
-const SIMPLE: [&str; 8] = [
-    "int f ( void ) {\n{\n}\n}\n",
-    "int f ( void ) {\n{\nint i ;\na ;\n}\n}\n",
-    "int f ( void ) {\n;\n}\n",
-    "int f ( void ) {\na ;\n}\n",
-    "int f ( void ) {\nbreak ;\n}\n",
-    "int f ( void ) {\ncontinue ;\n}\n",
-    "int f ( void ) {\nreturn ;\n}\n",
-    "int f ( void ) {\nreturn a ;\n}\n",
-];
 
 /// A block, an expression or a jump, by its row.
 fn simple(alloc: Global, row: usize) -> Mem<Statement> {
@@ -149,54 +143,64 @@ fn simple(alloc: Global, row: usize) -> Mem<Statement> {
     }
 }
 
-/// The text of `int f ( void ) { statement }`.
-fn printed_statement(alloc: Global, statement: Statement) -> Mem<Vec<u8>> {
-    printed(alloc, defined(alloc, BlockItem::Statement(statement))?)
+/// The text of `int f ( void ) { statement }`, with a statement that was made.
+fn printed_statement(alloc: Global, statement: Mem<Statement>) -> Mem<Vec<u8>> {
+    printed(alloc, defined(alloc, BlockItem::Statement(statement?)))
 }
 
-#[test]
-fn each_simple_statement_has_its_tokens(rt: HostRuntime) -> Result<(), Fail> {
-    for (row, wanted) in SIMPLE.iter().enumerate() {
-        let text = printed_statement(rt.alloc(), simple(rt.alloc(), row)?)?;
-        assert_eq!(rt; text.as_slice(), wanted.as_bytes());
+/// A statement with others in it, by its row.
+fn compound(alloc: Global, row: usize) -> Mem<Statement> {
+    match row {
+        8 => Ok(Statement::If(AT, one_branch(alloc)?, None)),
+        9 => ladder(alloc, one_branch(alloc)?),
+        10 => ladder(alloc, two_branches(alloc)?),
+        11 => tested_before(alloc),
+        12 => tested_behind(alloc),
+        13 => tested(alloc, ForStart::Declaration(declaration(alloc)?)),
+        14 => counted(alloc),
+        15 => endless(alloc),
+        16 => choice(alloc, empty_block(alloc)),
+        _ => choice(alloc, labelled(alloc)?),
     }
-    Ok(())
 }
 
-const COMPOUND: [&str; 10] = [
+const STATEMENTS: [&str; 18] = [
+    "int f ( void ) {\n{\n}\n}\n",
+    "int f ( void ) {\n{\nint i ;\na ;\n}\n}\n",
+    "int f ( void ) {\n;\n}\n",
+    "int f ( void ) {\na ;\n}\n",
+    "int f ( void ) {\nbreak ;\n}\n",
+    "int f ( void ) {\ncontinue ;\n}\n",
+    "int f ( void ) {\nreturn ;\n}\n",
+    "int f ( void ) {\nreturn a ;\n}\n",
     "int f ( void ) {\nif ( a ) b ;\n}\n",
     "int f ( void ) {\nif ( a ) b ;\nelse d ;\n}\n",
     "int f ( void ) {\nif ( a ) b ;\nelse if ( c ) ;\nelse d ;\n}\n",
     "int f ( void ) {\nwhile ( a ) b ;\n}\n",
     "int f ( void ) {\ndo b ;\nwhile ( a ) ;\n}\n",
-    "int f ( void ) {\nfor ( int i ;\na ;\nb ) c ;\n}\n",
-    "int f ( void ) {\nfor ( i ;\na ;\nb ) c ;\n}\n",
+    "int f ( void ) {\nfor ( int i ;\na ;\n) c ;\n}\n",
+    "int f ( void ) {\nfor ( i ;\n;\nb ) c ;\n}\n",
     "int f ( void ) {\nfor ( ;\n;\n) c ;\n}\n",
     "int f ( void ) {\nswitch ( a ) {\n}\n}\n",
     "int f ( void ) {\nswitch ( a ) {\ncase A : default : int i ;\nbreak ;\n}\n}\n",
 ];
 
-/// A statement with others in it, by its row.
-fn compound(alloc: Global, row: usize) -> Mem<Statement> {
+/// A statement, by its row.
+fn statement(alloc: Global, row: usize) -> Mem<Statement> {
     match row {
-        0 => Ok(Statement::If(AT, one_branch(alloc)?, None)),
-        1 => ladder(alloc, one_branch(alloc)?),
-        2 => ladder(alloc, two_branches(alloc)?),
-        3 => tested_before(alloc),
-        4 => tested_behind(alloc),
-        5 => counted(alloc, ForStart::Declaration(declaration(alloc)?)),
-        6 => counted(alloc, ForStart::Value(Some(name(alloc, "i")?))),
-        7 => endless(alloc),
-        8 => choice(alloc, empty_block(alloc)),
-        _ => choice(alloc, labelled(alloc)?),
+        0..=7 => simple(alloc, row),
+        _ => compound(alloc, row),
     }
 }
 
 #[test]
-fn each_compound_statement_has_its_tokens(rt: HostRuntime) -> Result<(), Fail> {
-    for (row, wanted) in COMPOUND.iter().enumerate() {
-        let text = printed_statement(rt.alloc(), compound(rt.alloc(), row)?)?;
-        assert_eq!(rt; text.as_slice(), wanted.as_bytes());
+fn each_statement_has_its_tokens(rt: HostRuntime) -> Mem<()> {
+    for (row, wanted) in STATEMENTS.iter().enumerate() {
+        compare(
+            &rt,
+            printed_statement(rt.alloc(), statement(rt.alloc(), row)),
+            wanted,
+        )?;
     }
     Ok(())
 }
