@@ -95,23 +95,26 @@ fn tested_behind(alloc: Global) -> Mem<Statement> {
     Ok(Statement::Do(AT, body, name(alloc, "a")?))
 }
 
-/// A `for` with a test.
-fn tested(alloc: Global, start: ForStart) -> Mem<Statement> {
+/// `for ( int i ; a ; b ) c ;`
+fn counted(alloc: Global) -> Mem<Statement> {
+    let body = boxed_run(alloc, "c")?;
     let test = name(alloc, "a")?;
-    Ok(Statement::For(AT, start, Some(test), None, boxed_run(alloc, "c")?))
+    let after = name(alloc, "b")?;
+    let start = ForStart::Declaration(declaration(alloc)?);
+    Ok(Statement::For(AT, start, Some(test), Some(after), body))
 }
 
-/// `for ( i ; ; b ) c ;`
-fn counted(alloc: Global) -> Mem<Statement> {
+/// `for ( i ; ; ) c ;`
+fn started_loop(alloc: Global) -> Mem<Statement> {
+    let body = boxed_run(alloc, "c")?;
     let start = ForStart::Value(Some(name(alloc, "i")?));
-    let after = name(alloc, "b")?;
-    Ok(Statement::For(AT, start, None, Some(after), boxed_run(alloc, "c")?))
+    Ok(Statement::For(AT, start, None, None, body))
 }
 
 /// `for ( ; ; ) c ;`
 fn endless(alloc: Global) -> Mem<Statement> {
-    let start = ForStart::Value(None);
-    Ok(Statement::For(AT, start, None, None, boxed_run(alloc, "c")?))
+    let body = boxed_run(alloc, "c")?;
+    Ok(Statement::For(AT, ForStart::Value(None), None, None, body))
 }
 
 /// `case A : default : int i ; break ;`
@@ -156,8 +159,8 @@ fn compound(alloc: Global, row: usize) -> Mem<Statement> {
         10 => ladder(alloc, two_branches(alloc)?),
         11 => tested_before(alloc),
         12 => tested_behind(alloc),
-        13 => tested(alloc, ForStart::Declaration(declaration(alloc)?)),
-        14 => counted(alloc),
+        13 => counted(alloc),
+        14 => started_loop(alloc),
         15 => endless(alloc),
         16 => choice(alloc, empty_block(alloc)),
         _ => choice(alloc, labelled(alloc)?),
@@ -178,8 +181,8 @@ const STATEMENTS: [&str; 18] = [
     "int f ( void ) {\nif ( a ) b ;\nelse if ( c ) ;\nelse d ;\n}\n",
     "int f ( void ) {\nwhile ( a ) b ;\n}\n",
     "int f ( void ) {\ndo b ;\nwhile ( a ) ;\n}\n",
-    "int f ( void ) {\nfor ( int i ;\na ;\n) c ;\n}\n",
-    "int f ( void ) {\nfor ( i ;\n;\nb ) c ;\n}\n",
+    "int f ( void ) {\nfor ( int i ;\na ;\nb ) c ;\n}\n",
+    "int f ( void ) {\nfor ( i ;\n;\n) c ;\n}\n",
     "int f ( void ) {\nfor ( ;\n;\n) c ;\n}\n",
     "int f ( void ) {\nswitch ( a ) {\n}\n}\n",
     "int f ( void ) {\nswitch ( a ) {\ncase A : default : int i ;\nbreak ;\n}\n}\n",
