@@ -3,11 +3,7 @@
 # runs the built program over each, and prints the seconds and how many times as long each takes as the one before.
 # 16 times the files may take at most 24 times as long: else the status is 1. It is a benchmark and no test.
 set -eu
-home=$(CDPATH= cd -- "$(dirname -- "$0")/.." && pwd -P)
-work=$(mktemp -d)
-trap 'rm -rf "$work"' EXIT
-(cd "$work" && "$home/ceedling" >/dev/null) || [ $? -eq 64 ]   # builds the program, where that is needed
-program=$home/crates/ct_cli/out/ct_cli
+. "$(dirname -- "$0")/timing.sh"
 
 # Of ten files four are tests, three are sources and three are headers; twenty files of a kind lie in one folder,
 # and five folders in one.
@@ -39,33 +35,4 @@ make_project() {
         }'
 }
 
-# The seconds of the fastest of five runs of the program itself, without the script that looks for newer sources.
-seconds_of() {
-    local best= start end
-    for _ in 1 2 3 4 5; do
-        start=$(date +%s.%N)
-        (cd "$work/$1" && "$program" test:all >"$work/report")
-        end=$(date +%s.%N)
-        best=$(awk -v a="$start" -v b="$end" -v c="$best" 'BEGIN { t = b - a; if (c != "" && c < t) t = c; printf "%.3f", t }')
-    done
-    echo "$best"
-}
-
-first=
-last=
-for files in 100 400 1600; do
-    make_project "$files"
-    seconds=$(seconds_of "$files")
-    if [ -z "$first" ]; then
-        first=$seconds
-        echo "$files files: $seconds s"
-    else
-        awk -v f="$files" -v s="$seconds" -v l="$last" -v o="$first" \
-            'BEGIN { printf "%d files: %s s, %.1f times the size before, %.1f times 100 files\n", f, s, s / l, s / o }'
-    fi
-    last=$seconds
-done
-awk -v s="$last" -v o="$first" 'BEGIN { exit s > 24 * o }' || {
-    echo "16 times the files take more than 24 times as long"
-    exit 1
-}
+time_each make_project files 24 100 400 1600

@@ -2,11 +2,7 @@ pub mod Doing
 pub mod World
 pub mod Rules
 pub mod Meaning
-pub mod Names
 pub mod Program
 pub mod Written
-pub mod Runner
-pub mod Linked
 pub mod Views
-pub mod Laws
 pub mod Calling

@@ -2,23 +2,14 @@
 #![tactic(auto)]
 
 mod evaluator;
-mod laws;
 mod objects;
 mod phases;
 mod program;
 mod rules;
 mod run;
-mod runner;
-mod runner_law;
 mod state;
-mod table;
 mod values;
 
-pub use laws::{
-    a_call_takes_a_step, a_first_failure_stays, a_test_takes_at_most_the_budget,
-    a_turn_takes_a_step, any_numbers, no_deeper_calls, nothing_is_given_back, steps_only_fall,
-};
+pub use program::is_external;
 pub use run::plain;
-pub use runner::test_log;
-pub use runner_law::{a_runner_is_named_apart, a_table_in_order_is_linked, runner_runs_the_phases};
 pub use state::{Ending, Place, Position, State, Stop, Where};

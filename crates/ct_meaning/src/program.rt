@@ -103,6 +103,7 @@ impl Program<'_> {
     }
 }
 
+/// Whether a function of this linkage may be named in each unit.
 pub fn is_external(linkage: Linkage) -> bool
     ensures { result ≡ spec.is_external linkage }
 {

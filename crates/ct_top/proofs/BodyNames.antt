@@ -19,9 +19,9 @@ use Rattle.ct_form.specs.Names.{assertion_type, type_of}
 use Rattle.ct_form.specs.Expressions.{IsExpression, IsSum, IsSumOf, IsUnit, IsCall, IsArguments, IsList, sum, less, units, whole, further, number, variable, call, group, named, none, some, last, more, int, value_of}
 use Rattle.ct_form.specs.Statements as form
 use Rattle.ct_form.specs.Statements.{At, IsStart, IsStatement, IsBody, assertion_core}
-use Rattle.ct_meaning.specs.Linked.{is_ordinary}
-use Rattle.ct_meaning.specs.Names.{expression_names, statement_names, all_of}
-use Rattle.ct_meaning.proofs.NameLaws as laws
+use Rattle.ct_phases.specs.Linked.{is_ordinary}
+use Rattle.ct_phases.specs.Names.{expression_names, statement_names, all_of}
+use Rattle.ct_phases.proofs.NameLaws as laws
 use Rattle.ct_top.proofs.FreeNames.{free_parts}
 
 abbrev pub Ordinary : CoreExpression → Type 0

@@ -5,7 +5,7 @@ use Rattle.ct_base.specs.declared.refusals.Refusal.{Refusal}
 use Rattle.ct_core.specs.declared.units.CoreUnit.{CoreUnit}
 use Rattle.ct_form.specs.declared.outside.Outside.{Outside}
 use Rattle.ct_form.specs.Form.{HasForm}
-use Rattle.ct_meaning.specs.Linked.{runner_of, table_in_order}
+use Rattle.ct_phases.specs.Linked.{runner_of, table_in_order}
 use Rattle.ct_meaning.specs.Written.{written_log, written_world}
 use Rattle.ct_report.specs.declared.logs.RunLog.{RunLog}
 use Rattle.ct_token.specs.Lexing.{IsTokenization, LeavesOpen}

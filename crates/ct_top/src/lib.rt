@@ -2,6 +2,8 @@
 #![tactic(auto)]
 
 #[cfg(test)]
+mod budget_tests;
+#[cfg(test)]
 mod form_tests;
 mod laws;
 mod names;

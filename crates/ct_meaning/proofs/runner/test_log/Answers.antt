@@ -1,5 +1,0 @@
-use Rattle.ct_meaning.proofs.RunnerLog.{written_so}
-use Rattle.ct_meaning.proofs.runner.test_log.Goals as goal
-
-pub returns : goal.returns
-returns c = written_so c.args.unit _ c.args.budget c.requires.project c.requires.names c.requires.main _ c.log_by_runner.ensures

@@ -1,5 +1,0 @@
-use Rattle.ct_meaning.proofs.RunnerApart.{runner_apart}
-use Rattle.ct_meaning.proofs.runner_law.a_runner_is_named_apart.Goals as goal
-
-pub returns : goal.returns
-returns c = runner_apart

@@ -1,5 +1,0 @@
-use Rattle.ct_meaning.proofs.TableInOrder.{linked}
-use Rattle.ct_meaning.proofs.runner_law.a_table_in_order_is_linked.Goals as goal
-
-pub returns : goal.returns
-returns c = linked

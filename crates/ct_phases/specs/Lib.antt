@@ -1,0 +1,4 @@
+pub mod Names
+pub mod Runner
+pub mod Linked
+pub mod Laws
