@@ -6,7 +6,9 @@ ghost use Rattle.ct_parts.specs.Views.{expr_of, exprs_of, specs_part, declarator
 ghost use Rattle.ct_syntax.specs.Grammar.{infix_level as spec_level};
 
 use ct_base::{BinaryOp, Bytes, Items, Mem, Span};
-use ct_parts::{Built, DeclaratorPart, ExprPart, Nest, Reach, SpecsPart, is_within, joined, nested};
+use ct_parts::{
+    Built, DeclaratorPart, ExprPart, Nest, Reach, SpecsPart, is_within, joined, nested,
+};
 use ct_syntax::{AssignOp, Expr, InfixOp, MemberOp, PrefixOp, StepOp};
 use std::alloc::Global;
 
@@ -50,7 +52,12 @@ pub fn name(alloc: Global, span: Span, text: Bytes) -> Mem<ExprPart>
     if !is_within(&reach) {
         return Ok(deep(reach, 16, span));
     }
-    Ok(ExprPart { tree: Some(Expr::Name(span, text)), reach, level: 16, span })
+    Ok(ExprPart {
+        tree: Some(Expr::Name(span, text)),
+        reach,
+        level: 16,
+        span,
+    })
 }
 
 /// A number.
@@ -61,7 +68,12 @@ pub fn number(alloc: Global, span: Span, text: Bytes) -> Mem<ExprPart>
     if !is_within(&reach) {
         return Ok(deep(reach, 16, span));
     }
-    Ok(ExprPart { tree: Some(Expr::Number(span, text)), reach, level: 16, span })
+    Ok(ExprPart {
+        tree: Some(Expr::Number(span, text)),
+        reach,
+        level: 16,
+        span,
+    })
 }
 
 /// A character constant.
@@ -72,7 +84,12 @@ pub fn character(alloc: Global, span: Span, text: Bytes) -> Mem<ExprPart>
     if !is_within(&reach) {
         return Ok(deep(reach, 16, span));
     }
-    Ok(ExprPart { tree: Some(Expr::Character(span, text)), reach, level: 16, span })
+    Ok(ExprPart {
+        tree: Some(Expr::Character(span, text)),
+        reach,
+        level: 16,
+        span,
+    })
 }
 
 /// String literals, one behind the other.
@@ -83,45 +100,57 @@ pub fn strings(alloc: Global, span: Span, first: Bytes, others: Items<Bytes>) ->
     if !is_within(&reach) {
         return Ok(deep(reach, 16, span));
     }
-    Ok(ExprPart { tree: Some(Expr::Text(span, first, others)), reach, level: 16, span })
+    Ok(ExprPart {
+        tree: Some(Expr::Text(span, first, others)),
+        reach,
+        level: 16,
+        span,
+    })
 }
 
 /// An expression in parentheses.
 pub fn paren(alloc: Global, span: Span, inner: ExprPart) -> Mem<ExprPart>
     ensures { IfOk result (λ p. expr_of p ≡ parts_built.paren (expr_of inner)) }
 {
-    let ExprPart { tree: x, reach: first, .. } = inner;
-    let reach = nested(alloc, Nest::Expression, &first)?;
+    let reach = nested(alloc, Nest::Expression, &inner.reach)?;
     if !is_within(&reach) {
         return Ok(deep(reach, 16, span));
     }
-    let Some(x) = x else {
+    let Some(x) = inner.tree else {
         return Ok(deep(reach, 16, span));
     };
     let x = Box::new(alloc, x)?;
-    Ok(ExprPart { tree: Some(Expr::Paren(span, x)), reach, level: 16, span })
+    Ok(ExprPart {
+        tree: Some(Expr::Paren(span, x)),
+        reach,
+        level: 16,
+        span,
+    })
 }
 
 /// A subscript.
 pub fn index(alloc: Global, array: ExprPart, place: ExprPart) -> Mem<ExprPart>
     ensures { IfOk result (λ p. expr_of p ≡ parts_built.index (expr_of array) (expr_of place)) }
 {
-    let ExprPart { tree: x, reach: first, span, .. } = array;
-    let ExprPart { tree: y, reach: second, .. } = place;
-    let reach = joined(first, &second)?;
+    let reach = joined(array.reach, &place.reach)?;
     let reach = nested(alloc, Nest::Expression, &reach)?;
     if !is_within(&reach) {
-        return Ok(deep(reach, 16, span));
+        return Ok(deep(reach, 16, array.span));
     }
-    let Some(x) = x else {
-        return Ok(deep(reach, 16, span));
+    let Some(x) = array.tree else {
+        return Ok(deep(reach, 16, array.span));
     };
-    let Some(y) = y else {
-        return Ok(deep(reach, 16, span));
+    let Some(y) = place.tree else {
+        return Ok(deep(reach, 16, array.span));
     };
     let x = Box::new(alloc, x)?;
     let y = Box::new(alloc, y)?;
-    Ok(ExprPart { tree: Some(Expr::Index(span, x, y)), reach, level: 16, span })
+    Ok(ExprPart {
+        tree: Some(Expr::Index(array.span, x, y)),
+        reach,
+        level: 16,
+        span: array.span,
+    })
 }
 
 /// A call.
@@ -129,252 +158,305 @@ pub fn index(alloc: Global, array: ExprPart, place: ExprPart) -> Mem<ExprPart>
 pub fn call(alloc: Global, function: ExprPart, arguments: Built<Vec<Expr>>) -> Mem<ExprPart>
     ensures { IfOk result (λ p. expr_of p ≡ parts_built.call (expr_of function) (exprs_of arguments)) }
 {
-    let ExprPart { tree: x, reach: first, span, .. } = function;
-    let Built { tree: xs, reach: second } = arguments;
-    let reach = joined(first, &second)?;
+    let reach = joined(function.reach, &arguments.reach)?;
     let reach = nested(alloc, Nest::Expression, &reach)?;
     if !is_within(&reach) {
-        return Ok(deep(reach, 16, span));
+        return Ok(deep(reach, 16, function.span));
     }
-    let Some(x) = x else {
-        return Ok(deep(reach, 16, span));
+    let Some(x) = function.tree else {
+        return Ok(deep(reach, 16, function.span));
     };
-    let Some(xs) = xs else {
-        return Ok(deep(reach, 16, span));
+    let Some(xs) = arguments.tree else {
+        return Ok(deep(reach, 16, function.span));
     };
     let x = Box::new(alloc, x)?;
-    Ok(ExprPart { tree: Some(Expr::Call(span, x, xs)), reach, level: 16, span })
+    Ok(ExprPart {
+        tree: Some(Expr::Call(function.span, x, xs)),
+        reach,
+        level: 16,
+        span: function.span,
+    })
 }
 
 /// A member of a struct.
 pub fn member(alloc: Global, whole: ExprPart, op: MemberOp, name: Bytes) -> Mem<ExprPart>
     ensures { IfOk result (λ p. expr_of p ≡ parts_built.member_of (expr_of whole) op name) }
 {
-    let ExprPart { tree: x, reach: first, span, .. } = whole;
-    let reach = nested(alloc, Nest::Expression, &first)?;
+    let reach = nested(alloc, Nest::Expression, &whole.reach)?;
     if !is_within(&reach) {
-        return Ok(deep(reach, 16, span));
+        return Ok(deep(reach, 16, whole.span));
     }
-    let Some(x) = x else {
-        return Ok(deep(reach, 16, span));
+    let Some(x) = whole.tree else {
+        return Ok(deep(reach, 16, whole.span));
     };
     let x = Box::new(alloc, x)?;
-    Ok(ExprPart { tree: Some(Expr::Member(span, x, op, name)), reach, level: 16, span })
+    Ok(ExprPart {
+        tree: Some(Expr::Member(whole.span, x, op, name)),
+        reach,
+        level: 16,
+        span: whole.span,
+    })
 }
 
 /// `++` or `--` behind its operand.
 pub fn postfix(alloc: Global, operand: ExprPart, op: StepOp) -> Mem<ExprPart>
     ensures { IfOk result (λ p. expr_of p ≡ parts_built.postfix (expr_of operand) op) }
 {
-    let ExprPart { tree: x, reach: first, span, .. } = operand;
-    let reach = nested(alloc, Nest::Expression, &first)?;
+    let reach = nested(alloc, Nest::Expression, &operand.reach)?;
     if !is_within(&reach) {
-        return Ok(deep(reach, 16, span));
+        return Ok(deep(reach, 16, operand.span));
     }
-    let Some(x) = x else {
-        return Ok(deep(reach, 16, span));
+    let Some(x) = operand.tree else {
+        return Ok(deep(reach, 16, operand.span));
     };
     let x = Box::new(alloc, x)?;
-    Ok(ExprPart { tree: Some(Expr::Postfix(span, x, op)), reach, level: 16, span })
+    Ok(ExprPart {
+        tree: Some(Expr::Postfix(operand.span, x, op)),
+        reach,
+        level: 16,
+        span: operand.span,
+    })
 }
 
 /// `++` or `--` before its operand.
 pub fn prefix(alloc: Global, span: Span, op: StepOp, operand: ExprPart) -> Mem<ExprPart>
     ensures { IfOk result (λ p. expr_of p ≡ parts_built.prefixed op (expr_of operand)) }
 {
-    let ExprPart { tree: x, reach: first, .. } = operand;
-    let reach = nested(alloc, Nest::Expression, &first)?;
+    let reach = nested(alloc, Nest::Expression, &operand.reach)?;
     if !is_within(&reach) {
         return Ok(deep(reach, 15, span));
     }
-    let Some(x) = x else {
+    let Some(x) = operand.tree else {
         return Ok(deep(reach, 15, span));
     };
     let x = Box::new(alloc, x)?;
-    Ok(ExprPart { tree: Some(Expr::Prefix(span, op, x)), reach, level: 15, span })
+    Ok(ExprPart {
+        tree: Some(Expr::Prefix(span, op, x)),
+        reach,
+        level: 15,
+        span,
+    })
 }
 
 /// An operator before its operand.
 pub fn unary(alloc: Global, span: Span, op: PrefixOp, operand: ExprPart) -> Mem<ExprPart>
     ensures { IfOk result (λ p. expr_of p ≡ parts_built.unary op (expr_of operand)) }
 {
-    let ExprPart { tree: x, reach: first, .. } = operand;
-    let reach = nested(alloc, Nest::Expression, &first)?;
+    let reach = nested(alloc, Nest::Expression, &operand.reach)?;
     if !is_within(&reach) {
         return Ok(deep(reach, 15, span));
     }
-    let Some(x) = x else {
+    let Some(x) = operand.tree else {
         return Ok(deep(reach, 15, span));
     };
     let x = Box::new(alloc, x)?;
-    Ok(ExprPart { tree: Some(Expr::Unary(span, op, x)), reach, level: 15, span })
+    Ok(ExprPart {
+        tree: Some(Expr::Unary(span, op, x)),
+        reach,
+        level: 15,
+        span,
+    })
 }
 
 /// `sizeof` of an expression.
 pub fn sizeof_value(alloc: Global, span: Span, operand: ExprPart) -> Mem<ExprPart>
     ensures { IfOk result (λ p. expr_of p ≡ parts_built.sizeof_value (expr_of operand)) }
 {
-    let ExprPart { tree: x, reach: first, .. } = operand;
-    let reach = nested(alloc, Nest::Expression, &first)?;
+    let reach = nested(alloc, Nest::Expression, &operand.reach)?;
     if !is_within(&reach) {
         return Ok(deep(reach, 15, span));
     }
-    let Some(x) = x else {
+    let Some(x) = operand.tree else {
         return Ok(deep(reach, 15, span));
     };
     let x = Box::new(alloc, x)?;
-    Ok(ExprPart { tree: Some(Expr::SizeofValue(span, x)), reach, level: 15, span })
+    Ok(ExprPart {
+        tree: Some(Expr::SizeofValue(span, x)),
+        reach,
+        level: 15,
+        span,
+    })
 }
 
 /// `sizeof` of a type name.
 #[tactic(auto, using(crate::proofs::Rules::tree_views))]
-pub fn sizeof_type(alloc: Global, span: Span, specs: SpecsPart, declarator: DeclaratorPart) -> Mem<ExprPart>
+pub fn sizeof_type(
+    alloc: Global,
+    span: Span,
+    specs: SpecsPart,
+    declarator: DeclaratorPart,
+) -> Mem<ExprPart>
     ensures { IfOk result (λ p. expr_of p ≡ parts_built.sizeof_type (specs_part specs) (declarator_part declarator)) }
 {
-    let SpecsPart { tree: us, reach: first, .. } = specs;
-    let DeclaratorPart { tree: d, reach: second, .. } = declarator;
-    let reach = joined(first, &second)?;
+    let reach = joined(specs.reach, &declarator.reach)?;
     let reach = nested(alloc, Nest::Expression, &reach)?;
     if !is_within(&reach) {
         return Ok(deep(reach, 15, span));
     }
-    let Some(us) = us else {
+    let Some(us) = specs.tree else {
         return Ok(deep(reach, 15, span));
     };
-    let Some(d) = d else {
+    let Some(d) = declarator.tree else {
         return Ok(deep(reach, 15, span));
     };
     let d = Box::new(alloc, d)?;
-    Ok(ExprPart { tree: Some(Expr::SizeofType(span, us, d)), reach, level: 15, span })
+    Ok(ExprPart {
+        tree: Some(Expr::SizeofType(span, us, d)),
+        reach,
+        level: 15,
+        span,
+    })
 }
 
 /// A cast.
 #[tactic(auto, using(crate::proofs::Rules::tree_views))]
-pub fn cast(alloc: Global, span: Span, specs: SpecsPart, declarator: DeclaratorPart, operand: ExprPart) -> Mem<ExprPart>
+pub fn cast(
+    alloc: Global,
+    span: Span,
+    specs: SpecsPart,
+    declarator: DeclaratorPart,
+    operand: ExprPart,
+) -> Mem<ExprPart>
     ensures { IfOk result (λ p. expr_of p ≡ parts_built.cast (specs_part specs) (declarator_part declarator) (expr_of operand)) }
 {
-    let SpecsPart { tree: us, reach: first, .. } = specs;
-    let DeclaratorPart { tree: d, reach: second, .. } = declarator;
-    let ExprPart { tree: x, reach: third, .. } = operand;
-    let reach = joined(first, &second)?;
-    let reach = joined(reach, &third)?;
+    let reach = joined(specs.reach, &declarator.reach)?;
+    let reach = joined(reach, &operand.reach)?;
     let reach = nested(alloc, Nest::Expression, &reach)?;
     if !is_within(&reach) {
         return Ok(deep(reach, 14, span));
     }
-    let Some(us) = us else {
+    let Some(us) = specs.tree else {
         return Ok(deep(reach, 14, span));
     };
-    let Some(d) = d else {
+    let Some(d) = declarator.tree else {
         return Ok(deep(reach, 14, span));
     };
-    let Some(x) = x else {
+    let Some(x) = operand.tree else {
         return Ok(deep(reach, 14, span));
     };
     let d = Box::new(alloc, d)?;
     let x = Box::new(alloc, x)?;
-    Ok(ExprPart { tree: Some(Expr::Cast(span, us, d, x)), reach, level: 14, span })
+    Ok(ExprPart {
+        tree: Some(Expr::Cast(span, us, d, x)),
+        reach,
+        level: 14,
+        span,
+    })
 }
 
 /// An operator between two operands.
 pub fn infix(alloc: Global, op: InfixOp, left: ExprPart, right: ExprPart) -> Mem<ExprPart>
     ensures { IfOk result (λ p. expr_of p ≡ parts_built.infixed op (expr_of left) (expr_of right)) }
 {
-    let ExprPart { tree: x, reach: first, span, .. } = left;
-    let ExprPart { tree: y, reach: second, .. } = right;
-    let reach = joined(first, &second)?;
+    let reach = joined(left.reach, &right.reach)?;
     let reach = nested(alloc, Nest::Expression, &reach)?;
     if !is_within(&reach) {
-        return Ok(deep(reach, infix_level(op), span));
+        return Ok(deep(reach, infix_level(op), left.span));
     }
-    let Some(x) = x else {
-        return Ok(deep(reach, infix_level(op), span));
+    let Some(x) = left.tree else {
+        return Ok(deep(reach, infix_level(op), left.span));
     };
-    let Some(y) = y else {
-        return Ok(deep(reach, infix_level(op), span));
+    let Some(y) = right.tree else {
+        return Ok(deep(reach, infix_level(op), left.span));
     };
     let x = Box::new(alloc, x)?;
     let y = Box::new(alloc, y)?;
-    Ok(ExprPart { tree: Some(Expr::Infix(span, op, x, y)), reach, level: infix_level(op), span })
+    Ok(ExprPart {
+        tree: Some(Expr::Infix(left.span, op, x, y)),
+        reach,
+        level: infix_level(op),
+        span: left.span,
+    })
 }
 
 /// `?` and `:`.
 pub fn conditional(alloc: Global, test: ExprPart, yes: ExprPart, no: ExprPart) -> Mem<ExprPart>
     ensures { IfOk result (λ p. expr_of p ≡ parts_built.conditional (expr_of test) (expr_of yes) (expr_of no)) }
 {
-    let ExprPart { tree: x, reach: first, span, .. } = test;
-    let ExprPart { tree: y, reach: second, .. } = yes;
-    let ExprPart { tree: z, reach: third, .. } = no;
-    let reach = joined(first, &second)?;
-    let reach = joined(reach, &third)?;
+    let reach = joined(test.reach, &yes.reach)?;
+    let reach = joined(reach, &no.reach)?;
     let reach = nested(alloc, Nest::Expression, &reach)?;
     if !is_within(&reach) {
-        return Ok(deep(reach, 3, span));
+        return Ok(deep(reach, 3, test.span));
     }
-    let Some(x) = x else {
-        return Ok(deep(reach, 3, span));
+    let Some(x) = test.tree else {
+        return Ok(deep(reach, 3, test.span));
     };
-    let Some(y) = y else {
-        return Ok(deep(reach, 3, span));
+    let Some(y) = yes.tree else {
+        return Ok(deep(reach, 3, test.span));
     };
-    let Some(z) = z else {
-        return Ok(deep(reach, 3, span));
+    let Some(z) = no.tree else {
+        return Ok(deep(reach, 3, test.span));
     };
     let x = Box::new(alloc, x)?;
     let y = Box::new(alloc, y)?;
     let z = Box::new(alloc, z)?;
-    Ok(ExprPart { tree: Some(Expr::Conditional(span, x, y, z)), reach, level: 3, span })
+    Ok(ExprPart {
+        tree: Some(Expr::Conditional(test.span, x, y, z)),
+        reach,
+        level: 3,
+        span: test.span,
+    })
 }
 
 /// An assignment.
 pub fn assign(alloc: Global, op: AssignOp, left: ExprPart, right: ExprPart) -> Mem<ExprPart>
     ensures { IfOk result (λ p. expr_of p ≡ parts_built.assign op (expr_of left) (expr_of right)) }
 {
-    let ExprPart { tree: x, reach: first, span, .. } = left;
-    let ExprPart { tree: y, reach: second, .. } = right;
-    let reach = joined(first, &second)?;
+    let reach = joined(left.reach, &right.reach)?;
     let reach = nested(alloc, Nest::Expression, &reach)?;
     if !is_within(&reach) {
-        return Ok(deep(reach, 2, span));
+        return Ok(deep(reach, 2, left.span));
     }
-    let Some(x) = x else {
-        return Ok(deep(reach, 2, span));
+    let Some(x) = left.tree else {
+        return Ok(deep(reach, 2, left.span));
     };
-    let Some(y) = y else {
-        return Ok(deep(reach, 2, span));
+    let Some(y) = right.tree else {
+        return Ok(deep(reach, 2, left.span));
     };
     let x = Box::new(alloc, x)?;
     let y = Box::new(alloc, y)?;
-    Ok(ExprPart { tree: Some(Expr::Assign(span, op, x, y)), reach, level: 2, span })
+    Ok(ExprPart {
+        tree: Some(Expr::Assign(left.span, op, x, y)),
+        reach,
+        level: 2,
+        span: left.span,
+    })
 }
 
 /// A comma.
 pub fn comma(alloc: Global, left: ExprPart, right: ExprPart) -> Mem<ExprPart>
     ensures { IfOk result (λ p. expr_of p ≡ parts_built.comma (expr_of left) (expr_of right)) }
 {
-    let ExprPart { tree: x, reach: first, span, .. } = left;
-    let ExprPart { tree: y, reach: second, .. } = right;
-    let reach = joined(first, &second)?;
+    let reach = joined(left.reach, &right.reach)?;
     let reach = nested(alloc, Nest::Expression, &reach)?;
     if !is_within(&reach) {
-        return Ok(deep(reach, 1, span));
+        return Ok(deep(reach, 1, left.span));
     }
-    let Some(x) = x else {
-        return Ok(deep(reach, 1, span));
+    let Some(x) = left.tree else {
+        return Ok(deep(reach, 1, left.span));
     };
-    let Some(y) = y else {
-        return Ok(deep(reach, 1, span));
+    let Some(y) = right.tree else {
+        return Ok(deep(reach, 1, left.span));
     };
     let x = Box::new(alloc, x)?;
     let y = Box::new(alloc, y)?;
-    Ok(ExprPart { tree: Some(Expr::Comma(span, x, y)), reach, level: 1, span })
+    Ok(ExprPart {
+        tree: Some(Expr::Comma(left.span, x, y)),
+        reach,
+        level: 1,
+        span: left.span,
+    })
 }
 
 /// No argument.
 pub fn no_arguments(alloc: Global) -> Built<Vec<Expr>>
     ensures { exprs_of result ≡ parts_built.no_arguments }
 {
-    Built { tree: Some(Vec::new(alloc)), reach: Items::new(alloc) }
+    Built {
+        tree: Some(Vec::new(alloc)),
+        reach: Items::new(alloc),
+    }
 }
 
 /// One argument more.
@@ -382,16 +464,16 @@ pub fn no_arguments(alloc: Global) -> Built<Vec<Expr>>
 pub fn push_argument(before: Built<Vec<Expr>>, argument: ExprPart) -> Mem<Built<Vec<Expr>>>
     ensures { IfOk result (λ p. exprs_of p ≡ parts_built.push (exprs_of before) (expr_of argument)) }
 {
-    let Built { tree: xs, reach: first } = before;
-    let ExprPart { tree: x, reach: second, .. } = argument;
-    let reach = joined(first, &second)?;
-    let Some(mut xs) = xs else {
+    let reach = joined(before.reach, &argument.reach)?;
+    let Some(mut xs) = before.tree else {
         return Ok(Built { tree: None, reach });
     };
-    let Some(x) = x else {
+    let Some(x) = argument.tree else {
         return Ok(Built { tree: None, reach });
     };
     xs.push(x)?;
-    Ok(Built { tree: Some(xs), reach })
+    Ok(Built {
+        tree: Some(xs),
+        reach,
+    })
 }
-

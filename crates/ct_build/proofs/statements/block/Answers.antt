@@ -12,9 +12,9 @@ pub returns : goal.returns
 returns c =
     let within : is_within c.in_ok-reach.reach ≡ true = grind (arith, c.is_within.ensures, c.if-not-is_within.false) in
     ap (λ b. make stmt b tt) (
-        one_some in_statement t.Block c.args.body.reach c.in_ok-reach.reach
-        (option_map (λ v. body_of v.items) c.args.body.tree)
-        (body_of c.in-Some.items.items) _
-        (c.in_ok-reach.ensures) within
-        (ap (option_map (λ v. body_of v.items)) c.in-Some.is)
-        (view_Block (record { span = c.args.span; items = c.in-Some.items })))
+    one_some in_statement t.Block c.args.body.reach c.in_ok-reach.reach
+    (option_map (λ v. body_of v.items) c.args.body.tree)
+    (body_of c.in-Some.items.items) _
+    (c.in_ok-reach.ensures) within
+    (ap (option_map (λ v. body_of v.items)) c.in-Some.is)
+    (view_Block (record { span = c.args.span; items = c.in-Some.items })))

@@ -12,9 +12,9 @@ pub returns : goal.returns
 returns c =
     let within : is_within c.in_ok-reach-2.reach ≡ true = grind (arith, c.is_within.ensures, c.if-not-is_within.false) in
     ap (λ b. make stmt b tt) (
-        one_pair in_statement (λ p. t.If p.0 (other_part p.1)) c.args.branches.reach flat c.in_ok-reach-2.reach
-        (option_map (λ v. branches_of v.items) c.args.branches.tree) (Some None)
-        (branches_of c.in-Some.bs.items) None _
-        (c.in_ok-reach-2.ensures ∙ ap in_statement (c.in_ok-reach.ensures ∙ ap (both c.args.branches.reach) c.new.ensures)) within
-        (ap (option_map (λ v. branches_of v.items)) c.in-Some.is) (refl)
-        (view_If c.args.span c.in-Some.bs None))
+    one_pair in_statement (λ p. t.If p.0 (other_part p.1)) c.args.branches.reach flat c.in_ok-reach-2.reach
+    (option_map (λ v. branches_of v.items) c.args.branches.tree) (Some None)
+    (branches_of c.in-Some.bs.items) None _
+    (c.in_ok-reach-2.ensures ∙ ap in_statement (c.in_ok-reach.ensures ∙ ap (both c.args.branches.reach) c.new.ensures)) within
+    (ap (option_map (λ v. branches_of v.items)) c.in-Some.is) (refl)
+    (view_If c.args.span c.in-Some.bs None))
