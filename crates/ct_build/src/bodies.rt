@@ -28,11 +28,13 @@ pub fn push_case(
 ) -> Mem<Built<Vec<BlockItem>>>
     ensures { IfOk result (λ p. body_part p ≡ parts_built.push_case (body_part before) (expr_of value)) }
 {
+    let list = before.tree;
+    let x = value.tree;
     let reach = joined(before.reach, &value.reach)?;
-    let Some(mut list) = before.tree else {
+    let Some(mut list) = list else {
         return Ok(Built { tree: None, reach });
     };
-    let Some(x) = value.tree else {
+    let Some(x) = x else {
         return Ok(Built { tree: None, reach });
     };
     list.push(BlockItem::Case(span, x))?;
@@ -47,7 +49,8 @@ pub fn push_case(
 pub fn push_default(before: Built<Vec<BlockItem>>, span: Span) -> Mem<Built<Vec<BlockItem>>>
     ensures { IfOk result (λ p. body_part p ≡ parts_built.push_default (body_part before)) }
 {
-    let Some(mut list) = before.tree else {
+    let list = before.tree;
+    let Some(mut list) = list else {
         return Ok(Built {
             tree: None,
             reach: before.reach,
@@ -68,11 +71,13 @@ pub fn push_declared(
 ) -> Mem<Built<Vec<BlockItem>>>
     ensures { IfOk result (λ p. body_part p ≡ parts_built.push_declared (body_part before) (declaration_part declaration)) }
 {
+    let list = before.tree;
+    let d = declaration.tree;
     let reach = joined(before.reach, &declaration.reach)?;
-    let Some(mut list) = before.tree else {
+    let Some(mut list) = list else {
         return Ok(Built { tree: None, reach });
     };
-    let Some(d) = declaration.tree else {
+    let Some(d) = d else {
         return Ok(Built { tree: None, reach });
     };
     list.push(BlockItem::Declaration(d))?;
@@ -90,11 +95,13 @@ pub fn push_stated(
 ) -> Mem<Built<Vec<BlockItem>>>
     ensures { IfOk result (λ p. body_part p ≡ parts_built.push_stated (body_part before) (statement_part statement)) }
 {
+    let list = before.tree;
+    let s = statement.tree;
     let reach = joined(before.reach, &statement.reach)?;
-    let Some(mut list) = before.tree else {
+    let Some(mut list) = list else {
         return Ok(Built { tree: None, reach });
     };
-    let Some(s) = statement.tree else {
+    let Some(s) = s else {
         return Ok(Built { tree: None, reach });
     };
     list.push(BlockItem::Statement(s))?;
@@ -126,6 +133,10 @@ pub fn push_definition(
 ) -> Mem<Built<Vec<Item>>>
     ensures { IfOk result (λ p. items_part p ≡ parts_built.push_definition (items_part before) (specs_part specs) (declarator_part declarator) (body_part body)) }
 {
+    let list = before.tree;
+    let us = specs.tree;
+    let d = declarator.tree;
+    let items = body.tree;
     let fourth = nested(alloc, Nest::Statement, &body.reach)?;
     let is_shallow = is_within(&fourth);
     let second = joined(specs.reach, &declarator.reach)?;
@@ -134,16 +145,16 @@ pub fn push_definition(
     if !is_shallow {
         return Ok(Built { tree: None, reach });
     }
-    let Some(mut list) = before.tree else {
+    let Some(mut list) = list else {
         return Ok(Built { tree: None, reach });
     };
-    let Some(us) = specs.tree else {
+    let Some(us) = us else {
         return Ok(Built { tree: None, reach });
     };
-    let Some(declarator) = declarator.tree else {
+    let Some(declarator) = d else {
         return Ok(Built { tree: None, reach });
     };
-    let Some(items) = body.tree else {
+    let Some(items) = items else {
         return Ok(Built { tree: None, reach });
     };
     list.push(Item::Function(specs.span, us, declarator, Block { span: brace, items }))?;
@@ -161,11 +172,13 @@ pub fn push_outside(
 ) -> Mem<Built<Vec<Item>>>
     ensures { IfOk result (λ p. items_part p ≡ parts_built.push_outside (items_part before) (declaration_part declaration)) }
 {
+    let list = before.tree;
+    let d = declaration.tree;
     let reach = joined(before.reach, &declaration.reach)?;
-    let Some(mut list) = before.tree else {
+    let Some(mut list) = list else {
         return Ok(Built { tree: None, reach });
     };
-    let Some(d) = declaration.tree else {
+    let Some(d) = d else {
         return Ok(Built { tree: None, reach });
     };
     list.push(Item::Declaration(d))?;
@@ -180,7 +193,8 @@ pub fn push_outside(
 pub fn push_lone(before: Built<Vec<Item>>, span: Span) -> Mem<Built<Vec<Item>>>
     ensures { IfOk result (λ p. items_part p ≡ parts_built.push_lone (items_part before)) }
 {
-    let Some(mut list) = before.tree else {
+    let list = before.tree;
+    let Some(mut list) = list else {
         return Ok(Built {
             tree: None,
             reach: before.reach,

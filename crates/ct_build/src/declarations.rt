@@ -17,7 +17,8 @@ use std::alloc::Global;
 pub fn value_init(value: ExprPart) -> Mem<Built<Initialiser>>
     ensures { IfOk result (λ p. initialiser_part p ≡ parts_built.value_init (expr_of value)) }
 {
-    let Some(x) = value.tree else {
+    let x = value.tree;
+    let Some(x) = x else {
         return Ok(Built {
             tree: None,
             reach: value.reach,
@@ -39,11 +40,12 @@ pub fn braces(
 ) -> Mem<Built<Initialiser>>
     ensures { IfOk result (λ p. initialiser_part p ≡ parts_built.braces (initialisers_part items) comma) }
 {
+    let list = items.tree;
     let reach = nested(alloc, Nest::Declarator, &items.reach)?;
     if !is_within(&reach) {
         return Ok(Built { tree: None, reach });
     }
-    let Some(list) = items.tree else {
+    let Some(list) = list else {
         return Ok(Built { tree: None, reach });
     };
     Ok(Built {
@@ -99,19 +101,21 @@ pub fn push_init(
 ) -> Mem<Built<Vec<InitialiserItem>>>
     ensures { IfOk result (λ p. initialisers_part p ≡ parts_built.push_init (initialisers_part before) (aimed_part aim) (initialiser_part value)) }
 {
+    let list = before.tree;
     let Built {
         tree: designator,
         reach: second,
     } = designator(alloc, aim);
+    let x = value.tree;
     let second = joined(second, &value.reach)?;
     let reach = joined(before.reach, &second)?;
-    let Some(mut list) = before.tree else {
+    let Some(mut list) = list else {
         return Ok(Built { tree: None, reach });
     };
     let Some(designator) = designator else {
         return Ok(Built { tree: None, reach });
     };
-    let Some(value) = value.tree else {
+    let Some(value) = x else {
         return Ok(Built { tree: None, reach });
     };
     list.push(InitialiserItem {
@@ -145,12 +149,14 @@ pub fn push_bare(
     ensures { IfOk result (λ p. init_declarators_part p ≡ parts_built.push_init_declarator (init_declarators_part before) (declarator_part declarator) None) }
 {
     let span = declarator.span;
+    let list = before.tree;
+    let d = declarator.tree;
     let second = joined(declarator.reach, &Items::new(alloc))?;
     let reach = joined(before.reach, &second)?;
-    let Some(mut list) = before.tree else {
+    let Some(mut list) = list else {
         return Ok(Built { tree: None, reach });
     };
-    let Some(declarator) = declarator.tree else {
+    let Some(declarator) = d else {
         return Ok(Built { tree: None, reach });
     };
     list.push(InitDeclarator {
@@ -174,15 +180,18 @@ pub fn push_started(
     ensures { IfOk result (λ p. init_declarators_part p ≡ parts_built.push_init_declarator (init_declarators_part before) (declarator_part declarator) (Some (initialiser_part start))) }
 {
     let span = declarator.span;
+    let list = before.tree;
+    let d = declarator.tree;
+    let v = start.tree;
     let second = joined(declarator.reach, &start.reach)?;
     let reach = joined(before.reach, &second)?;
-    let Some(mut list) = before.tree else {
+    let Some(mut list) = list else {
         return Ok(Built { tree: None, reach });
     };
-    let Some(declarator) = declarator.tree else {
+    let Some(declarator) = d else {
         return Ok(Built { tree: None, reach });
     };
-    let Some(start) = start.tree else {
+    let Some(start) = v else {
         return Ok(Built { tree: None, reach });
     };
     list.push(InitDeclarator {
@@ -200,11 +209,13 @@ pub fn push_started(
 pub fn declare(specs: SpecsPart, list: Built<Vec<InitDeclarator>>) -> Mem<Built<Declaration>>
     ensures { IfOk result (λ p. declaration_part p ≡ parts_built.declare (specs_part specs) (init_declarators_part list)) }
 {
+    let us = specs.tree;
+    let ds = list.tree;
     let reach = joined(specs.reach, &list.reach)?;
-    let Some(us) = specs.tree else {
+    let Some(us) = us else {
         return Ok(Built { tree: None, reach });
     };
-    let Some(ds) = list.tree else {
+    let Some(ds) = ds else {
         return Ok(Built { tree: None, reach });
     };
     Ok(Built {
@@ -217,7 +228,8 @@ pub fn declare(specs: SpecsPart, list: Built<Vec<InitDeclarator>>) -> Mem<Built<
 pub fn static_assert(span: Span, condition: ExprPart, text: Bytes) -> Mem<Built<Declaration>>
     ensures { IfOk result (λ p. declaration_part p ≡ parts_built.assert (expr_of condition) text) }
 {
-    let Some(x) = condition.tree else {
+    let x = condition.tree;
+    let Some(x) = x else {
         return Ok(Built {
             tree: None,
             reach: condition.reach,

@@ -30,11 +30,13 @@ pub fn push_declarator(
 ) -> Mem<Built<Vec<Declarator>>>
     ensures { IfOk result (λ p. declarators_part p ≡ parts_built.push_declarator (declarators_part before) (declarator_part declarator)) }
 {
+    let list = before.tree;
+    let last = declarator.tree;
     let reach = joined(before.reach, &declarator.reach)?;
-    let Some(mut list) = before.tree else {
+    let Some(mut list) = list else {
         return Ok(Built { tree: None, reach });
     };
-    let Some(last) = declarator.tree else {
+    let Some(last) = last else {
         return Ok(Built { tree: None, reach });
     };
     list.push(last)?;
@@ -80,6 +82,7 @@ pub fn called(alloc: Global, span: Span, text: &[u8]) -> Mem<DeclaratorPart>
 pub fn group(alloc: Global, span: Span, inner: DeclaratorPart) -> Mem<DeclaratorPart>
     ensures { IfOk result (λ p. declarator_part p ≡ parts_built.group (declarator_part inner)) }
 {
+    let d = inner.tree;
     let reach = nested(alloc, Nest::Declarator, &inner.reach)?;
     let is_shallow = is_within(&reach);
     let mut part = DeclaratorPart {
@@ -94,7 +97,7 @@ pub fn group(alloc: Global, span: Span, inner: DeclaratorPart) -> Mem<Declarator
     if !is_shallow {
         return Ok(part);
     }
-    let Some(d) = inner.tree else {
+    let Some(d) = d else {
         return Ok(part);
     };
     let d = Box::new(alloc, d)?;
@@ -111,6 +114,7 @@ pub fn pointer(
 ) -> Mem<DeclaratorPart>
     ensures { IfOk result (λ p. declarator_part p ≡ parts_built.pointer qualifiers (declarator_part inner)) }
 {
+    let d = inner.tree;
     let reach = nested(alloc, Nest::Declarator, &inner.reach)?;
     let is_shallow = is_within(&reach);
     let mut part = DeclaratorPart {
@@ -125,7 +129,7 @@ pub fn pointer(
     if !is_shallow {
         return Ok(part);
     }
-    let Some(d) = inner.tree else {
+    let Some(d) = d else {
         return Ok(part);
     };
     let d = Box::new(alloc, d)?;
@@ -138,6 +142,7 @@ pub fn pointer(
 pub fn array_open(alloc: Global, inner: DeclaratorPart) -> Mem<DeclaratorPart>
     ensures { IfOk result (λ p. declarator_part p ≡ parts_built.array_open (declarator_part inner)) }
 {
+    let d = inner.tree;
     let reach = nested(alloc, Nest::Declarator, &inner.reach)?;
     let is_shallow = is_within(&reach);
     let mut part = DeclaratorPart {
@@ -152,7 +157,7 @@ pub fn array_open(alloc: Global, inner: DeclaratorPart) -> Mem<DeclaratorPart>
     if !is_shallow {
         return Ok(part);
     }
-    let Some(d) = inner.tree else {
+    let Some(d) = d else {
         return Ok(part);
     };
     let d = Box::new(alloc, d)?;
@@ -165,6 +170,8 @@ pub fn array_open(alloc: Global, inner: DeclaratorPart) -> Mem<DeclaratorPart>
 pub fn array(alloc: Global, inner: DeclaratorPart, size: ExprPart) -> Mem<DeclaratorPart>
     ensures { IfOk result (λ p. declarator_part p ≡ parts_built.array (declarator_part inner) (expr_of size)) }
 {
+    let d = inner.tree;
+    let x = size.tree;
     let reach = joined(inner.reach, &size.reach)?;
     let reach = nested(alloc, Nest::Declarator, &reach)?;
     let is_shallow = is_within(&reach);
@@ -180,10 +187,10 @@ pub fn array(alloc: Global, inner: DeclaratorPart, size: ExprPart) -> Mem<Declar
     if !is_shallow {
         return Ok(part);
     }
-    let Some(d) = inner.tree else {
+    let Some(d) = d else {
         return Ok(part);
     };
-    let Some(size) = size.tree else {
+    let Some(size) = x else {
         return Ok(part);
     };
     let d = Box::new(alloc, d)?;
@@ -208,6 +215,8 @@ pub fn function(
 ) -> Mem<DeclaratorPart>
     ensures { IfOk result (λ p. declarator_part p ≡ parts_built.function (declarator_part inner) form (parameters_part parameters)) }
 {
+    let d = inner.tree;
+    let list = parameters.tree;
     let own = own_names(inner.plain, inner.own, parameters.names);
     let reach = joined(inner.reach, &parameters.reach)?;
     let reach = nested(alloc, Nest::Declarator, &reach)?;
@@ -218,16 +227,16 @@ pub fn function(
         nameless: false,
         name: inner.name,
         plain: false,
-        own: own,
+        own,
         span: inner.span,
     };
     if !is_shallow {
         return Ok(part);
     }
-    let Some(d) = inner.tree else {
+    let Some(d) = d else {
         return Ok(part);
     };
-    let Some(list) = parameters.tree else {
+    let Some(list) = list else {
         return Ok(part);
     };
     let d = Box::new(alloc, d)?;
@@ -275,6 +284,9 @@ pub fn push_parameter(
 ) -> Mem<ParametersPart>
     ensures { IfOk result (λ p. parameters_part p ≡ parts_built.push_parameter (parameters_part before) (specs_part specs) (declarator_part declarator)) }
 {
+    let list = before.tree;
+    let us = specs.tree;
+    let d = declarator.tree;
     let only_void = before.empty && is_void(&specs.words, specs.wholes) && declarator.nameless;
     let more = with_name(specs.names, declarator.name, specs.typedef)?;
     let mut names = before.names;
@@ -288,13 +300,13 @@ pub fn push_parameter(
         only_void,
         names,
     };
-    let Some(mut list) = before.tree else {
+    let Some(mut list) = list else {
         return Ok(part);
     };
-    let Some(us) = specs.tree else {
+    let Some(us) = us else {
         return Ok(part);
     };
-    let Some(declarator) = declarator.tree else {
+    let Some(declarator) = d else {
         return Ok(part);
     };
     list.push(Parameter {

@@ -112,11 +112,12 @@ pub fn strings(alloc: Global, span: Span, first: Bytes, others: Items<Bytes>) ->
 pub fn paren(alloc: Global, span: Span, inner: ExprPart) -> Mem<ExprPart>
     ensures { IfOk result (λ p. expr_of p ≡ parts_built.paren (expr_of inner)) }
 {
+    let x = inner.tree;
     let reach = nested(alloc, Nest::Expression, &inner.reach)?;
     if !is_within(&reach) {
         return Ok(deep(reach, 16, span));
     }
-    let Some(x) = inner.tree else {
+    let Some(x) = x else {
         return Ok(deep(reach, 16, span));
     };
     let x = Box::new(alloc, x)?;
@@ -132,15 +133,17 @@ pub fn paren(alloc: Global, span: Span, inner: ExprPart) -> Mem<ExprPart>
 pub fn index(alloc: Global, array: ExprPart, place: ExprPart) -> Mem<ExprPart>
     ensures { IfOk result (λ p. expr_of p ≡ parts_built.index (expr_of array) (expr_of place)) }
 {
+    let x = array.tree;
+    let y = place.tree;
     let reach = joined(array.reach, &place.reach)?;
     let reach = nested(alloc, Nest::Expression, &reach)?;
     if !is_within(&reach) {
         return Ok(deep(reach, 16, array.span));
     }
-    let Some(x) = array.tree else {
+    let Some(x) = x else {
         return Ok(deep(reach, 16, array.span));
     };
-    let Some(y) = place.tree else {
+    let Some(y) = y else {
         return Ok(deep(reach, 16, array.span));
     };
     let x = Box::new(alloc, x)?;
@@ -158,15 +161,17 @@ pub fn index(alloc: Global, array: ExprPart, place: ExprPart) -> Mem<ExprPart>
 pub fn call(alloc: Global, function: ExprPart, arguments: Built<Vec<Expr>>) -> Mem<ExprPart>
     ensures { IfOk result (λ p. expr_of p ≡ parts_built.call (expr_of function) (exprs_of arguments)) }
 {
+    let x = function.tree;
+    let xs = arguments.tree;
     let reach = joined(function.reach, &arguments.reach)?;
     let reach = nested(alloc, Nest::Expression, &reach)?;
     if !is_within(&reach) {
         return Ok(deep(reach, 16, function.span));
     }
-    let Some(x) = function.tree else {
+    let Some(x) = x else {
         return Ok(deep(reach, 16, function.span));
     };
-    let Some(xs) = arguments.tree else {
+    let Some(xs) = xs else {
         return Ok(deep(reach, 16, function.span));
     };
     let x = Box::new(alloc, x)?;
@@ -182,11 +187,12 @@ pub fn call(alloc: Global, function: ExprPart, arguments: Built<Vec<Expr>>) -> M
 pub fn member(alloc: Global, whole: ExprPart, op: MemberOp, name: Bytes) -> Mem<ExprPart>
     ensures { IfOk result (λ p. expr_of p ≡ parts_built.member_of (expr_of whole) op name) }
 {
+    let x = whole.tree;
     let reach = nested(alloc, Nest::Expression, &whole.reach)?;
     if !is_within(&reach) {
         return Ok(deep(reach, 16, whole.span));
     }
-    let Some(x) = whole.tree else {
+    let Some(x) = x else {
         return Ok(deep(reach, 16, whole.span));
     };
     let x = Box::new(alloc, x)?;
@@ -202,11 +208,12 @@ pub fn member(alloc: Global, whole: ExprPart, op: MemberOp, name: Bytes) -> Mem<
 pub fn postfix(alloc: Global, operand: ExprPart, op: StepOp) -> Mem<ExprPart>
     ensures { IfOk result (λ p. expr_of p ≡ parts_built.postfix (expr_of operand) op) }
 {
+    let x = operand.tree;
     let reach = nested(alloc, Nest::Expression, &operand.reach)?;
     if !is_within(&reach) {
         return Ok(deep(reach, 16, operand.span));
     }
-    let Some(x) = operand.tree else {
+    let Some(x) = x else {
         return Ok(deep(reach, 16, operand.span));
     };
     let x = Box::new(alloc, x)?;
@@ -222,11 +229,12 @@ pub fn postfix(alloc: Global, operand: ExprPart, op: StepOp) -> Mem<ExprPart>
 pub fn prefix(alloc: Global, span: Span, op: StepOp, operand: ExprPart) -> Mem<ExprPart>
     ensures { IfOk result (λ p. expr_of p ≡ parts_built.prefixed op (expr_of operand)) }
 {
+    let x = operand.tree;
     let reach = nested(alloc, Nest::Expression, &operand.reach)?;
     if !is_within(&reach) {
         return Ok(deep(reach, 15, span));
     }
-    let Some(x) = operand.tree else {
+    let Some(x) = x else {
         return Ok(deep(reach, 15, span));
     };
     let x = Box::new(alloc, x)?;
@@ -242,11 +250,12 @@ pub fn prefix(alloc: Global, span: Span, op: StepOp, operand: ExprPart) -> Mem<E
 pub fn unary(alloc: Global, span: Span, op: PrefixOp, operand: ExprPart) -> Mem<ExprPart>
     ensures { IfOk result (λ p. expr_of p ≡ parts_built.unary op (expr_of operand)) }
 {
+    let x = operand.tree;
     let reach = nested(alloc, Nest::Expression, &operand.reach)?;
     if !is_within(&reach) {
         return Ok(deep(reach, 15, span));
     }
-    let Some(x) = operand.tree else {
+    let Some(x) = x else {
         return Ok(deep(reach, 15, span));
     };
     let x = Box::new(alloc, x)?;
@@ -262,11 +271,12 @@ pub fn unary(alloc: Global, span: Span, op: PrefixOp, operand: ExprPart) -> Mem<
 pub fn sizeof_value(alloc: Global, span: Span, operand: ExprPart) -> Mem<ExprPart>
     ensures { IfOk result (λ p. expr_of p ≡ parts_built.sizeof_value (expr_of operand)) }
 {
+    let x = operand.tree;
     let reach = nested(alloc, Nest::Expression, &operand.reach)?;
     if !is_within(&reach) {
         return Ok(deep(reach, 15, span));
     }
-    let Some(x) = operand.tree else {
+    let Some(x) = x else {
         return Ok(deep(reach, 15, span));
     };
     let x = Box::new(alloc, x)?;
@@ -288,15 +298,17 @@ pub fn sizeof_type(
 ) -> Mem<ExprPart>
     ensures { IfOk result (λ p. expr_of p ≡ parts_built.sizeof_type (specs_part specs) (declarator_part declarator)) }
 {
+    let us = specs.tree;
+    let d = declarator.tree;
     let reach = joined(specs.reach, &declarator.reach)?;
     let reach = nested(alloc, Nest::Expression, &reach)?;
     if !is_within(&reach) {
         return Ok(deep(reach, 15, span));
     }
-    let Some(us) = specs.tree else {
+    let Some(us) = us else {
         return Ok(deep(reach, 15, span));
     };
-    let Some(d) = declarator.tree else {
+    let Some(d) = d else {
         return Ok(deep(reach, 15, span));
     };
     let d = Box::new(alloc, d)?;
@@ -319,19 +331,22 @@ pub fn cast(
 ) -> Mem<ExprPart>
     ensures { IfOk result (λ p. expr_of p ≡ parts_built.cast (specs_part specs) (declarator_part declarator) (expr_of operand)) }
 {
+    let us = specs.tree;
+    let d = declarator.tree;
+    let x = operand.tree;
     let reach = joined(specs.reach, &declarator.reach)?;
     let reach = joined(reach, &operand.reach)?;
     let reach = nested(alloc, Nest::Expression, &reach)?;
     if !is_within(&reach) {
         return Ok(deep(reach, 14, span));
     }
-    let Some(us) = specs.tree else {
+    let Some(us) = us else {
         return Ok(deep(reach, 14, span));
     };
-    let Some(d) = declarator.tree else {
+    let Some(d) = d else {
         return Ok(deep(reach, 14, span));
     };
-    let Some(x) = operand.tree else {
+    let Some(x) = x else {
         return Ok(deep(reach, 14, span));
     };
     let d = Box::new(alloc, d)?;
@@ -348,15 +363,17 @@ pub fn cast(
 pub fn infix(alloc: Global, op: InfixOp, left: ExprPart, right: ExprPart) -> Mem<ExprPart>
     ensures { IfOk result (λ p. expr_of p ≡ parts_built.infixed op (expr_of left) (expr_of right)) }
 {
+    let x = left.tree;
+    let y = right.tree;
     let reach = joined(left.reach, &right.reach)?;
     let reach = nested(alloc, Nest::Expression, &reach)?;
     if !is_within(&reach) {
         return Ok(deep(reach, infix_level(op), left.span));
     }
-    let Some(x) = left.tree else {
+    let Some(x) = x else {
         return Ok(deep(reach, infix_level(op), left.span));
     };
-    let Some(y) = right.tree else {
+    let Some(y) = y else {
         return Ok(deep(reach, infix_level(op), left.span));
     };
     let x = Box::new(alloc, x)?;
@@ -373,19 +390,22 @@ pub fn infix(alloc: Global, op: InfixOp, left: ExprPart, right: ExprPart) -> Mem
 pub fn conditional(alloc: Global, test: ExprPart, yes: ExprPart, no: ExprPart) -> Mem<ExprPart>
     ensures { IfOk result (λ p. expr_of p ≡ parts_built.conditional (expr_of test) (expr_of yes) (expr_of no)) }
 {
+    let x = test.tree;
+    let y = yes.tree;
+    let z = no.tree;
     let reach = joined(test.reach, &yes.reach)?;
     let reach = joined(reach, &no.reach)?;
     let reach = nested(alloc, Nest::Expression, &reach)?;
     if !is_within(&reach) {
         return Ok(deep(reach, 3, test.span));
     }
-    let Some(x) = test.tree else {
+    let Some(x) = x else {
         return Ok(deep(reach, 3, test.span));
     };
-    let Some(y) = yes.tree else {
+    let Some(y) = y else {
         return Ok(deep(reach, 3, test.span));
     };
-    let Some(z) = no.tree else {
+    let Some(z) = z else {
         return Ok(deep(reach, 3, test.span));
     };
     let x = Box::new(alloc, x)?;
@@ -403,15 +423,17 @@ pub fn conditional(alloc: Global, test: ExprPart, yes: ExprPart, no: ExprPart) -
 pub fn assign(alloc: Global, op: AssignOp, left: ExprPart, right: ExprPart) -> Mem<ExprPart>
     ensures { IfOk result (λ p. expr_of p ≡ parts_built.assign op (expr_of left) (expr_of right)) }
 {
+    let x = left.tree;
+    let y = right.tree;
     let reach = joined(left.reach, &right.reach)?;
     let reach = nested(alloc, Nest::Expression, &reach)?;
     if !is_within(&reach) {
         return Ok(deep(reach, 2, left.span));
     }
-    let Some(x) = left.tree else {
+    let Some(x) = x else {
         return Ok(deep(reach, 2, left.span));
     };
-    let Some(y) = right.tree else {
+    let Some(y) = y else {
         return Ok(deep(reach, 2, left.span));
     };
     let x = Box::new(alloc, x)?;
@@ -428,15 +450,17 @@ pub fn assign(alloc: Global, op: AssignOp, left: ExprPart, right: ExprPart) -> M
 pub fn comma(alloc: Global, left: ExprPart, right: ExprPart) -> Mem<ExprPart>
     ensures { IfOk result (λ p. expr_of p ≡ parts_built.comma (expr_of left) (expr_of right)) }
 {
+    let x = left.tree;
+    let y = right.tree;
     let reach = joined(left.reach, &right.reach)?;
     let reach = nested(alloc, Nest::Expression, &reach)?;
     if !is_within(&reach) {
         return Ok(deep(reach, 1, left.span));
     }
-    let Some(x) = left.tree else {
+    let Some(x) = x else {
         return Ok(deep(reach, 1, left.span));
     };
-    let Some(y) = right.tree else {
+    let Some(y) = y else {
         return Ok(deep(reach, 1, left.span));
     };
     let x = Box::new(alloc, x)?;
@@ -464,11 +488,13 @@ pub fn no_arguments(alloc: Global) -> Built<Vec<Expr>>
 pub fn push_argument(before: Built<Vec<Expr>>, argument: ExprPart) -> Mem<Built<Vec<Expr>>>
     ensures { IfOk result (λ p. exprs_of p ≡ parts_built.push (exprs_of before) (expr_of argument)) }
 {
+    let xs = before.tree;
+    let x = argument.tree;
     let reach = joined(before.reach, &argument.reach)?;
-    let Some(mut xs) = before.tree else {
+    let Some(mut xs) = xs else {
         return Ok(Built { tree: None, reach });
     };
-    let Some(x) = argument.tree else {
+    let Some(x) = x else {
         return Ok(Built { tree: None, reach });
     };
     xs.push(x)?;

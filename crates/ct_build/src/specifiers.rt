@@ -107,34 +107,30 @@ pub fn with_struct(
 ) -> Mem<SpecsPart>
     ensures { IfOk result (λ p. specs_part p ≡ parts_built.with_struct (specs_part before) tag (members_part members)) }
 {
+    let specs = before.tree;
+    let list = members.tree;
     let inside = nested(alloc, Nest::Declarator, &members.reach)?;
     let is_shallow = is_within(&inside);
     let reach = joined(before.reach, &inside)?;
     let wholes = one_more(before.wholes)?;
     let mut names = before.names;
     names.append(members.names)?;
-    let SpecsPart {
-        words,
-        typedef,
-        span,
-        ..
-    } = before;
     let mut part = SpecsPart {
         tree: None,
         reach,
-        words,
+        words: before.words,
         wholes,
-        typedef,
+        typedef: before.typedef,
         names,
-        span,
+        span: before.span,
     };
     if !is_shallow {
         return Ok(part);
     }
-    let Some(mut specs) = before.tree else {
+    let Some(mut specs) = specs else {
         return Ok(part);
     };
-    let Some(list) = members.tree else {
+    let Some(list) = list else {
         return Ok(part);
     };
     specs.push(Spec::StructList(at, tag, list))?;
@@ -153,29 +149,25 @@ pub fn with_enum(
 ) -> Mem<SpecsPart>
     ensures { IfOk result (λ p. specs_part p ≡ parts_built.with_enum (specs_part before) tag (enumerators_part enumerators) comma) }
 {
+    let specs = before.tree;
+    let list = enumerators.tree;
     let reach = joined(before.reach, &enumerators.reach)?;
     let wholes = one_more(before.wholes)?;
     let mut names = before.names;
     names.append(enumerators.names)?;
-    let SpecsPart {
-        words,
-        typedef,
-        span,
-        ..
-    } = before;
     let mut part = SpecsPart {
         tree: None,
         reach,
-        words,
+        words: before.words,
         wholes,
-        typedef,
+        typedef: before.typedef,
         names,
-        span,
+        span: before.span,
     };
-    let Some(mut specs) = before.tree else {
+    let Some(mut specs) = specs else {
         return Ok(part);
     };
-    let Some(list) = enumerators.tree else {
+    let Some(list) = list else {
         return Ok(part);
     };
     specs.push(Spec::EnumList(at, tag, list, comma))?;
@@ -203,41 +195,34 @@ pub fn push_member(
 ) -> Mem<MembersPart>
     ensures { IfOk result (λ p. members_part p ≡ parts_built.push_member (members_part before) (specs_part specs) (declarators_part list)) }
 {
+    let members = before.tree;
+    let us = specs.tree;
+    let declarators = list.tree;
     let mut names = before.names;
     names.append(specs.names)?;
     let second = joined(specs.reach, &list.reach)?;
     let reach = joined(before.reach, &second)?;
-    let Some(mut members) = before.tree else {
-        return Ok(MembersPart {
-            tree: None,
-            reach,
-            names,
-        });
+    let mut part = MembersPart {
+        tree: None,
+        reach,
+        names,
     };
-    let Some(us) = specs.tree else {
-        return Ok(MembersPart {
-            tree: None,
-            reach,
-            names,
-        });
+    let Some(mut members) = members else {
+        return Ok(part);
     };
-    let Some(declarators) = list.tree else {
-        return Ok(MembersPart {
-            tree: None,
-            reach,
-            names,
-        });
+    let Some(us) = us else {
+        return Ok(part);
+    };
+    let Some(declarators) = declarators else {
+        return Ok(part);
     };
     members.push(Member {
         span: specs.span,
         specs: us,
         declarators,
     })?;
-    Ok(MembersPart {
-        tree: Some(members),
-        reach,
-        names,
-    })
+    part.tree = Some(members);
+    Ok(part)
 }
 
 /// No enumerator.
@@ -261,13 +246,15 @@ pub fn push_enumerator(
 ) -> Mem<EnumeratorsPart>
     ensures { IfOk result (λ p. enumerators_part p ≡ parts_built.push_enumerator (enumerators_part before) name) }
 {
+    let list = before.tree;
     let mut names = before.names;
+    let declared = Bytes::from_slice(alloc, name.as_slice())?;
     names.push(Declared {
-        name: Bytes::from_slice(alloc, name.as_slice())?,
+        name: declared,
         is_type: false,
     })?;
     let reach = before.reach;
-    let Some(mut list) = before.tree else {
+    let Some(mut list) = list else {
         return Ok(EnumeratorsPart {
             tree: None,
             reach,
@@ -297,25 +284,25 @@ pub fn push_valued(
 ) -> Mem<EnumeratorsPart>
     ensures { IfOk result (λ p. enumerators_part p ≡ parts_built.push_valued (enumerators_part before) name (expr_of value)) }
 {
+    let list = before.tree;
+    let x = value.tree;
     let mut names = before.names;
+    let declared = Bytes::from_slice(alloc, name.as_slice())?;
     names.push(Declared {
-        name: Bytes::from_slice(alloc, name.as_slice())?,
+        name: declared,
         is_type: false,
     })?;
     let reach = joined(before.reach, &value.reach)?;
-    let Some(mut list) = before.tree else {
-        return Ok(EnumeratorsPart {
-            tree: None,
-            reach,
-            names,
-        });
+    let mut part = EnumeratorsPart {
+        tree: None,
+        reach,
+        names,
     };
-    let Some(value) = value.tree else {
-        return Ok(EnumeratorsPart {
-            tree: None,
-            reach,
-            names,
-        });
+    let Some(mut list) = list else {
+        return Ok(part);
+    };
+    let Some(value) = x else {
+        return Ok(part);
     };
     let value = Box::new(alloc, value)?;
     list.push(Enumerator {
@@ -323,9 +310,6 @@ pub fn push_valued(
         name,
         value: Some(value),
     })?;
-    Ok(EnumeratorsPart {
-        tree: Some(list),
-        reach,
-        names,
-    })
+    part.tree = Some(list);
+    Ok(part)
 }

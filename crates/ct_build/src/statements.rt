@@ -15,7 +15,8 @@ use std::alloc::Global;
 pub fn start_declaration(declaration: Built<Declaration>) -> Mem<Built<ForStart>>
     ensures { IfOk result (λ p. for_start_part p ≡ parts_built.start_declaration (declaration_part declaration)) }
 {
-    let Some(d) = declaration.tree else {
+    let d = declaration.tree;
+    let Some(d) = d else {
         return Ok(Built {
             tree: None,
             reach: declaration.reach,
@@ -37,7 +38,8 @@ fn optional(alloc: Global, value: Option<ExprPart>) -> Built<Option<Expr>>
             reach: Items::new(alloc),
         };
     };
-    let Some(x) = value.tree else {
+    let tree = value.tree;
+    let Some(x) = tree else {
         return Built {
             tree: None,
             reach: value.reach,
@@ -68,11 +70,12 @@ pub fn start_value(alloc: Global, value: Option<ExprPart>) -> Mem<Built<ForStart
 pub fn block(alloc: Global, span: Span, body: Built<Vec<BlockItem>>) -> Mem<Built<Statement>>
     ensures { IfOk result (λ p. statement_part p ≡ parts_built.block (body_part body)) }
 {
+    let items = body.tree;
     let reach = nested(alloc, Nest::Statement, &body.reach)?;
     if !is_within(&reach) {
         return Ok(Built { tree: None, reach });
     }
-    let Some(items) = body.tree else {
+    let Some(items) = items else {
         return Ok(Built { tree: None, reach });
     };
     Ok(Built {
@@ -128,12 +131,13 @@ pub fn return_value(alloc: Global, span: Span, value: Option<ExprPart>) -> Mem<B
 pub fn if_branches(alloc: Global, span: Span, branches: Built<Vec<Branch>>) -> Mem<Built<Statement>>
     ensures { IfOk result (λ p. statement_part p ≡ parts_built.if_else (branches_part branches) None) }
 {
+    let bs = branches.tree;
     let reach = joined(branches.reach, &Items::new(alloc))?;
     let reach = nested(alloc, Nest::Statement, &reach)?;
     if !is_within(&reach) {
         return Ok(Built { tree: None, reach });
     }
-    let Some(bs) = branches.tree else {
+    let Some(bs) = bs else {
         return Ok(Built { tree: None, reach });
     };
     Ok(Built {
@@ -152,15 +156,17 @@ pub fn if_else(
 ) -> Mem<Built<Statement>>
     ensures { IfOk result (λ p. statement_part p ≡ parts_built.if_else (branches_part branches) (Some (statement_part other))) }
 {
+    let bs = branches.tree;
+    let s = other.tree;
     let reach = joined(branches.reach, &other.reach)?;
     let reach = nested(alloc, Nest::Statement, &reach)?;
     if !is_within(&reach) {
         return Ok(Built { tree: None, reach });
     }
-    let Some(bs) = branches.tree else {
+    let Some(bs) = bs else {
         return Ok(Built { tree: None, reach });
     };
-    let Some(other) = other.tree else {
+    let Some(other) = s else {
         return Ok(Built { tree: None, reach });
     };
     let other = Box::new(alloc, other)?;
@@ -179,15 +185,17 @@ pub fn while_loop(
 ) -> Mem<Built<Statement>>
     ensures { IfOk result (λ p. statement_part p ≡ parts_built.while_loop (expr_of test) (statement_part body)) }
 {
+    let x = test.tree;
+    let inner = body.tree;
     let reach = joined(test.reach, &body.reach)?;
     let reach = nested(alloc, Nest::Statement, &reach)?;
     if !is_within(&reach) {
         return Ok(Built { tree: None, reach });
     }
-    let Some(x) = test.tree else {
+    let Some(x) = x else {
         return Ok(Built { tree: None, reach });
     };
-    let Some(inner) = body.tree else {
+    let Some(inner) = inner else {
         return Ok(Built { tree: None, reach });
     };
     let inner = Box::new(alloc, inner)?;
@@ -206,15 +214,17 @@ pub fn do_loop(
 ) -> Mem<Built<Statement>>
     ensures { IfOk result (λ p. statement_part p ≡ parts_built.do_loop (statement_part body) (expr_of test)) }
 {
+    let inner = body.tree;
+    let x = test.tree;
     let reach = joined(body.reach, &test.reach)?;
     let reach = nested(alloc, Nest::Statement, &reach)?;
     if !is_within(&reach) {
         return Ok(Built { tree: None, reach });
     }
-    let Some(inner) = body.tree else {
+    let Some(inner) = inner else {
         return Ok(Built { tree: None, reach });
     };
-    let Some(x) = test.tree else {
+    let Some(x) = x else {
         return Ok(Built { tree: None, reach });
     };
     let inner = Box::new(alloc, inner)?;
@@ -235,6 +245,7 @@ pub fn for_loop(
 ) -> Mem<Built<Statement>>
     ensures { IfOk result (λ p. statement_part p ≡ parts_built.for_loop (for_start_part start) (option_map expr_of test) (option_map expr_of after) (statement_part body)) }
 {
+    let v = start.tree;
     let Built {
         tree: test,
         reach: second,
@@ -243,6 +254,7 @@ pub fn for_loop(
         tree: after,
         reach: third,
     } = optional(alloc, after);
+    let inner = body.tree;
     let reach = joined(start.reach, &second)?;
     let reach = joined(reach, &third)?;
     let reach = joined(reach, &body.reach)?;
@@ -250,7 +262,7 @@ pub fn for_loop(
     if !is_within(&reach) {
         return Ok(Built { tree: None, reach });
     }
-    let Some(start) = start.tree else {
+    let Some(start) = v else {
         return Ok(Built { tree: None, reach });
     };
     let Some(test) = test else {
@@ -259,7 +271,7 @@ pub fn for_loop(
     let Some(after) = after else {
         return Ok(Built { tree: None, reach });
     };
-    let Some(inner) = body.tree else {
+    let Some(inner) = inner else {
         return Ok(Built { tree: None, reach });
     };
     let inner = Box::new(alloc, inner)?;
@@ -280,15 +292,17 @@ pub fn switch(
 ) -> Mem<Built<Statement>>
     ensures { IfOk result (λ p. statement_part p ≡ parts_built.switch (expr_of value) (body_part body)) }
 {
+    let x = value.tree;
+    let items = body.tree;
     let reach = joined(value.reach, &body.reach)?;
     let reach = nested(alloc, Nest::Statement, &reach)?;
     if !is_within(&reach) {
         return Ok(Built { tree: None, reach });
     }
-    let Some(x) = value.tree else {
+    let Some(x) = x else {
         return Ok(Built { tree: None, reach });
     };
-    let Some(items) = body.tree else {
+    let Some(items) = items else {
         return Ok(Built { tree: None, reach });
     };
     Ok(Built {
@@ -345,15 +359,18 @@ pub fn push_branch(
 ) -> Mem<Built<Vec<Branch>>>
     ensures { IfOk result (λ p. branches_part p ≡ parts_built.push_branch (branches_part before) (expr_of test) (statement_part body)) }
 {
+    let list = before.tree;
+    let x = test.tree;
+    let s = body.tree;
     let second = joined(test.reach, &body.reach)?;
     let reach = joined(before.reach, &second)?;
-    let Some(mut list) = before.tree else {
+    let Some(mut list) = list else {
         return Ok(Built { tree: None, reach });
     };
-    let Some(test) = test.tree else {
+    let Some(test) = x else {
         return Ok(Built { tree: None, reach });
     };
-    let Some(body) = body.tree else {
+    let Some(body) = s else {
         return Ok(Built { tree: None, reach });
     };
     list.push(Branch { span, test, body })?;
