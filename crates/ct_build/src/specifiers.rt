@@ -97,7 +97,7 @@ pub fn with_enum_tag(mut before: SpecsPart, name: Bytes, at: Span) -> Mem<SpecsP
 }
 
 /// A struct with its members more.
-#[tactic(auto, using(crate::proofs::Rules::specs_last, crate::proofs::Rules::tree_views, crate::proofs::Rules::names_append))]
+#[tactic(auto, using(crate::proofs::Rules::names_append))]
 pub fn with_struct(
     alloc: Global,
     before: SpecsPart,
@@ -139,7 +139,7 @@ pub fn with_struct(
 }
 
 /// An enumeration with its enumerators more.
-#[tactic(auto, using(crate::proofs::Rules::specs_last, crate::proofs::Rules::tree_views, crate::proofs::Rules::names_append))]
+#[tactic(auto, using(crate::proofs::Rules::names_append))]
 pub fn with_enum(
     before: SpecsPart,
     at: Span,

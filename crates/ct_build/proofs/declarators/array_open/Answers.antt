@@ -11,7 +11,7 @@ use Rattle.ct_build.proofs.declarators.array_open.Goals as goal
 
 pub returns : goal.returns
 returns c =
-    let within : is_within c.in_ok-reach.reach ≡ true = grind (arith, c.is_within.ensures, c.if-not-is_within.false) in
+    let within : is_within c.in_ok-reach.reach ≡ true = grind (arith, c.is_within-is_shallow.ensures, c.if-not-is_shallow.false) in
     ap (λ b. make decl b (record { nameless = false; name = c.args.inner.name; plain = false; own = names_of c.args.inner.own })) (
     one_some in_declarator (λ z. t.Array z t.absent) c.args.inner.reach c.in_ok-reach.reach
     (option_map view_declarator c.args.inner.tree)

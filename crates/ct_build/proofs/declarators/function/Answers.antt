@@ -11,8 +11,8 @@ use Rattle.ct_build.proofs.declarators.function.Goals as goal
 
 pub returns : goal.returns
 returns c =
-    let within : is_within c.in_ok-reach-2.reach ≡ true = grind (arith, c.is_within.ensures, c.if-not-is_within.false) in
-    ap (λ z. make decl _ (record { nameless = false; name = c.args.inner.name; plain = false; own = z })) c.own_names.ensures ∙ ap (λ b. make decl b _) (
+    let within : is_within c.in_ok-reach-2.reach ≡ true = grind (arith, c.is_within-is_shallow.ensures, c.if-not-is_shallow.false) in
+    ap (λ z. make decl _ (record { nameless = false; name = c.args.inner.name; plain = false; own = z })) c.own_names-own.ensures ∙ ap (λ b. make decl b _) (
     one_pair in_declarator (λ p. t.Function p.0 c.args.form p.1) c.args.inner.reach c.args.parameters.reach c.in_ok-reach-2.reach
     (option_map view_declarator c.args.inner.tree) (option_map (λ v. parameters_of v.items) c.args.parameters.tree)
     (view_declarator c.in-Some.d) (parameters_of c.in-Some-list.list.items) _

@@ -15,7 +15,7 @@ returns c =
     ap (λ b. make stmt b tt) (
     one_pair in_statement (λ p. t.If p.0 (other_part p.1)) c.args.branches.reach c.args.other.reach c.in_ok-reach-2.reach
     (option_map (λ v. branches_of v.items) c.args.branches.tree) (option_map Some (option_map view_statement c.args.other.tree))
-    (branches_of c.in-Some.bs.items) (Some (view_statement c.in-Some-other.other)) _
+    (branches_of c.in-Some.bs.items) (Some (view_statement c.in-Some-s.other)) _
     (c.in_ok-reach-2.ensures ∙ ap in_statement c.in_ok-reach.ensures) within
-    (ap (option_map (λ v. branches_of v.items)) c.in-Some.is) (ap (λ o. option_map Some (option_map view_statement o)) c.in-Some-other.is)
+    (ap (option_map (λ v. branches_of v.items)) c.in-Some.is) (ap (λ o. option_map Some (option_map view_statement o)) c.in-Some-s.is)
     (view_If c.args.span c.in-Some.bs (Some c.in_ok-other.other) ∙ ap (λ z. t.If (branches_of c.in-Some.bs.items) (t.else_do (view_statement z))) c.in_ok-other.ensures.ok))
