@@ -1,6 +1,7 @@
--- One more at the end of a list that is built, and one more whole type among specifiers.
+-- One more at the end of a list that is built, one more whole type among specifiers, and functions.
 use Rattle.std.proofs.Common.{◌≡◌, ℕ, ◌+◌, ◌++◌, Option, Some, option_map, sym, ap, ◌∙◌}
-use Rattle.ct_parts.specs.Algebra.{Tree, specs}
+use Rattle.ct_syntax.specs.Words.{Text}
+use Rattle.ct_parts.specs.Algebra.{Tree, specs, decl}
 use Rattle.ct_parts.specs.Reach.{Depth, both}
 use Rattle.ct_parts.specs.Parts.{Built, Names, Part, SpecInfo, make, option_pair, over, pair, with_whole}
 
@@ -15,3 +16,9 @@ whole_more i ns all count b d eb ec en =
     ap (λ z. make specs z (record { words = i.words; wholes = count; typedef = i.typedef; names = all })) eb
     ∙ ap (λ z. make specs d (record { words = i.words; wholes = z; typedef = i.typedef; names = all })) ec
     ∙ ap (λ z. make specs d (record { words = i.words; wholes = i.wholes + 1; typedef = i.typedef; names = z })) en
+
+-- a declarator that is a function, and the names that its parameters declare
+pub function_as : (n : Option Text) (ns ms : Names) (b d : Built (Tree decl)) → b ≡ d → ns ≡ ms → ◌≡◌ {A = Part decl} (make decl b (record { nameless = false; name = n; plain = false; own = ns })) (make decl d (record { nameless = false; name = n; plain = false; own = ms }))
+function_as n ns ms b d eb en =
+    ap (λ z. make decl z (record { nameless = false; name = n; plain = false; own = ns })) eb
+    ∙ ap (λ z. make decl d (record { nameless = false; name = n; plain = false; own = z })) en
