@@ -1,5 +1,5 @@
 -- One more at the end of a list that is built, one more whole type among specifiers, and functions.
-use Rattle.std.proofs.Common.{◌≡◌, ℕ, ◌+◌, ◌++◌, Option, Some, option_map, sym, ap, ◌∙◌}
+use Rattle.std.proofs.Common.{◌≡◌, ℕ, false, ◌+◌, ◌++◌, Option, Some, option_map, sym, ap, ◌∙◌}
 use Rattle.ct_syntax.specs.Words.{Text}
 use Rattle.ct_parts.specs.Algebra.{Tree, specs, decl}
 use Rattle.ct_parts.specs.Reach.{Depth, both}
