@@ -1,0 +1,6 @@
+mod Joining
+mod Endings
+mod Cutting
+mod Naming
+mod Names
+mod Listing

@@ -1,0 +1,4 @@
+mod Choices
+mod Defining
+mod Nesting
+mod Replacing

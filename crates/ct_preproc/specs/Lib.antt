@@ -1,0 +1,4 @@
+pub mod Reading
+pub mod Directives
+pub mod Files
+pub mod Units

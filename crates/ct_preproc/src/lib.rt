@@ -1,0 +1,17 @@
+//! The unit of a file: what its text becomes by preprocessing, with the files that it includes (C11
+//! 5.1.1.2p1.4, 6.10).
+#![tactic(auto)]
+
+mod conditionals;
+mod directives;
+mod file;
+mod paths;
+mod reader;
+mod reading;
+mod state;
+#[cfg(test)]
+mod tests;
+mod units;
+
+pub use ct_directive::{Head, Heads, PreFault, PreKind};
+pub use units::{Include, SourceUnit, unit};
