@@ -1,3 +1,4 @@
+mod Choosing
 mod Joining
 mod Endings
 mod Cutting

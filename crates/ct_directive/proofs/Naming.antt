@@ -11,7 +11,7 @@ use Rattle.ct_directive.specs.declared.heads.Heads.{Heads}
 use Rattle.ct_directive.specs.declared.search.Target.{Target}
 use Rattle.ct_directive.specs.Headers.{BuiltIn}
 use Rattle.ct_directive.specs.Search.{IsFound, IsNotAt, Means, NameMeans}
-use Rattle.ct_preproc.proofs.Choices.{ok_true, ok_map}
+use Rattle.ct_directive.proofs.Choosing.{ok_true, ok_map}
 
 -- a name that is no UTF-8 means nothing
 pub no_text : (files : Files) (folders : List (List ℕ)) (heads : Heads) (headers : List BuiltIn) (path : List ℕ) (header : Header)
