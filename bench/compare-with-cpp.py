@@ -1,0 +1,135 @@
+#!/usr/bin/env python3
+"""Compares what generated macros become with what the C preprocessor of the machine makes of them.
+
+It makes 1,000 texts of a few definitions and calls, lets `cpp -P` and the program of samples preprocess each, and
+compares the tokens, or that both refuse. It prints how many agree and each text that does not, and ends with status 1
+where one does not. Without cpp it says so and ends with 0. It is no test of `rt ci`.
+
+Not made are texts in which the two differ by this project's own rules: a directive ends the text before it, so no call
+goes on behind one; the line of a name in an argument is its own, and with cpp that of the call's end; and cpp drops the
+comma of `, ## __VA_ARGS__` without arguments, as an extension of its own."""
+import os
+import random
+import re
+import shutil
+import subprocess
+import sys
+import tempfile
+
+CASES = 1000
+MACROS = ["f", "g", "h", "k"]
+NAMES = ["x", "y", "z"]
+MARKS = ["+", "-", "*", "<", "=", ".", "&", "|", "[", "]"]
+TOKEN = re.compile(
+    r"""\.?[0-9](?:[eEpP][+-]|[A-Za-z0-9_.])*|[A-Za-z_][A-Za-z0-9_]*|"(?:\\.|[^"\\])*"|'(?:\\.|[^'\\])*'"""
+    r"""|%:%:|\.\.\.|<<=|>>=|->|\+\+|--|<<|>>|<=|>=|==|!=|&&|\|\||[-*/%+&^|]=|\#\#|<:|:>|<%|%>|%:|\S""",
+    re.X,
+)
+
+
+def plain(rand, names):
+    """A token that is no operator of a replacement list."""
+    choice = rand.randrange(10)
+    if choice < 5:
+        return rand.choice(names)
+    if choice < 7:
+        return rand.choice(["1", "2", "0x3", "4e"])
+    return rand.choice(MARKS)
+
+
+def call(rand, names, takes, depth):
+    """A text that calls a macro, mostly with as many arguments as it takes, or a few plain tokens."""
+    if depth == 0 or not takes or rand.randrange(3) == 0:
+        return " ".join(plain(rand, names) for _ in range(rand.randrange(3)))
+    name = rand.choice(list(takes))
+    count = rand.randrange(1, 4) if takes[name] is None or rand.randrange(20) == 0 else takes[name]
+    arguments = [call(rand, names, takes, depth - 1) for _ in range(count)]
+    return name + rand.choice(["", "", " "]) + "(" + rand.choice([",", ", "]).join(arguments) + ")"
+
+
+def body(rand, names, takes, parameters):
+    """A replacement list."""
+    words = []
+    for _ in range(rand.randrange(6)):
+        choice = rand.randrange(12)
+        if choice == 0 and parameters:
+            words.append("#" + rand.choice(parameters))
+        elif choice == 1 and words and words[-1] != "##":
+            words += ["##", rand.choice(parameters + ["x", "1"])]
+        elif choice < 5 and parameters:
+            words.append(rand.choice(parameters))
+        elif choice == 5:
+            words.append(call(rand, names + parameters, takes, 1))
+        else:
+            words.append(plain(rand, names))
+    return " ".join(words)
+
+
+def definition(rand, name, takes, parameters):
+    """A definition; a macro without parameter list has None."""
+    listed = "" if parameters is None else "(" + ", ".join(parameters).replace("__VA_ARGS__", "...") + ")"
+    return f"#define {name}{listed} {body(rand, NAMES + MACROS, takes, parameters or [])}".rstrip()
+
+
+def case(rand):
+    """A few definitions, and a text."""
+    lists = [None, [], ["a"], ["a"], ["a", "b"], ["a", "b"], ["__VA_ARGS__"]]
+    macros = {name: rand.choice(lists) for name in rand.sample(MACROS, rand.randrange(2, 5))}
+    takes = {
+        name: None if "__VA_ARGS__" in parameters else len(parameters)
+        for name, parameters in macros.items()
+        if parameters is not None
+    }
+    lines = [definition(rand, name, takes, parameters) for name, parameters in macros.items()]
+    lines.append(definition(rand, rand.choice(NAMES), takes, None))
+    words = [call(rand, NAMES + MACROS, takes, 2) for _ in range(rand.randrange(1, 4))]
+    return "\n".join(lines + [" ".join(words)]) + "\n"
+
+
+def by_cpp(cpp, work, text):
+    """The tokens by cpp, or None where it refuses."""
+    path = os.path.join(work, "m.c")
+    with open(path, "w") as file:
+        file.write(text)
+    run = subprocess.run(
+        [cpp, "-P", "-undef", "-nostdinc", "-std=c11", path], capture_output=True, text=True, check=False
+    )
+    return None if run.returncode else TOKEN.findall(run.stdout)
+
+
+def by_samples(program, work, texts):
+    """The tokens of each text, or None where it is refused."""
+    path = os.path.join(work, "cases.txt")
+    with open(path, "w") as file:
+        for number, text in enumerate(texts):
+            file.write(f"== {number}\n-- m.c\n{text}")
+    run = subprocess.run([program, path], capture_output=True, text=True, check=True)
+    answers = [line.split(":", 1)[1].strip() for line in run.stdout.splitlines()]
+    return [None if answer.startswith("m.c:") else TOKEN.findall(answer) for answer in answers]
+
+
+def main():
+    cpp = shutil.which("cpp")
+    if cpp is None:
+        print("no cpp is here: nothing was compared")
+        return 0
+    home = os.path.dirname(os.path.dirname(os.path.abspath(__file__)))
+    folder = os.path.join(home, "crates", "ct_samples")
+    program = os.path.join(folder, "out", "ct_samples")
+    subprocess.run(["rt", "run"], cwd=folder, check=True, stdin=subprocess.DEVNULL, capture_output=True)
+    rand = random.Random(20251201)
+    texts = [case(rand) for _ in range(CASES)]
+    agree = 0
+    with tempfile.TemporaryDirectory() as work:
+        for text, ours in zip(texts, by_samples(program, work, texts)):
+            theirs = by_cpp(cpp, work, text)
+            if ours == theirs:
+                agree += 1
+            else:
+                print(f"{text}here: {ours}\ncpp:  {theirs}\n")
+    print(f"{agree} of {CASES} agree with {cpp}")
+    return 0 if agree == CASES else 1
+
+
+if __name__ == "__main__":
+    sys.exit(main())
