@@ -6,17 +6,12 @@ trap 'rm -rf "$work"' EXIT
 (cd "$work" && "$home/ceedling" >/dev/null) || [ $? -eq 64 ]
 program=$home/crates/ct_cli/out/ct_cli
 
+. "$home/bench/fastest.sh"
+
 # seconds_of FOLDER: the seconds of the fastest of five runs of the program itself over a project, without the script
 # that looks for newer sources.
 seconds_of() {
-    local best= start end
-    for _ in 1 2 3 4 5; do
-        start=$(date +%s.%N)
-        (cd "$1" && "$program" test:all >"$work/report")
-        end=$(date +%s.%N)
-        best=$(awk -v a="$start" -v b="$end" -v c="$best" 'BEGIN { t = b - a; if (c != "" && c < t) t = c; printf "%.3f", t }')
-    done
-    echo "$best"
+    (cd "$1" && fastest "$program" test:all)
 }
 
 # time_each MAKER WHAT MOST SIZE..: MAKER makes the project of a size in $work/SIZE; prints the seconds of each, and
