@@ -101,19 +101,44 @@ fn a_header_name_has_its_form(rt: HostRuntime) -> Result<(), Fail> {
     for (text, wanted) in table {
         let list = tokens_of(&rt, text)?;
         let found = header_in(rt.alloc(), list.as_slice())?;
-        let found = found.as_ref().map(|header| (header.name.as_slice(), header.quoted));
+        let found = found
+            .as_ref()
+            .map(|header| (header.name.as_slice(), header.quoted));
         let wanted = wanted.map(|(name, quoted)| (name.as_bytes(), quoted));
         assert_eq!(rt; found, wanted, "at {text}");
     }
     Ok(())
 }
 
+/// The table in which one name is defined.
+fn defining(rt: &(impl Abort + AllocGlobal), name: &str) -> Result<Macros, Fail> {
+    let mut macros = Macros::new(rt.alloc())?;
+    let list = tokens_of(rt, name)?;
+    let Some(found) = definition_in(rt.alloc(), list.as_slice())? else {
+        return Err("no macro".into());
+    };
+    macros.define(found)?;
+    Ok(macros)
+}
+
+/// Compares a condition behind the operator with the texts of tokens.
+fn compare(
+    rt: &(impl Abort + AllocGlobal),
+    macros: &Macros,
+    text: &str,
+    wanted: &str,
+) -> Result<(), Fail> {
+    let list = tokens_of(rt, text)?;
+    let words = without_defined(rt.alloc(), macros, list.as_slice())?;
+    let mut found = Vec::new(rt.alloc());
+    push_tokens(&mut found, words.as_slice())?;
+    assert_eq!(rt; found.as_slice(), wanted.as_bytes(), "at {text}");
+    Ok(())
+}
+
 #[test]
 fn the_operator_defined_is_a_number(rt: HostRuntime) -> Result<(), Fail> {
-    let mut macros = Macros::new(rt.alloc())?;
-    let list = tokens_of(&rt, "a")?;
-    let found = definition_in(rt.alloc(), list.as_slice())?.ok_or("no macro")?;
-    macros.define(found)?;
+    let macros = defining(&rt, "a")?;
     let table: [(&str, &str); 8] = [
         ("defined a", " 1"),
         ("defined b", " 0"),
@@ -125,11 +150,7 @@ fn the_operator_defined_is_a_number(rt: HostRuntime) -> Result<(), Fail> {
         ("defined", " defined"),
     ];
     for (text, wanted) in table {
-        let list = tokens_of(&rt, text)?;
-        let words = without_defined(rt.alloc(), &macros, list.as_slice())?;
-        let mut found = Vec::new(rt.alloc());
-        push_tokens(&mut found, words.as_slice())?;
-        assert_eq!(rt; found.as_slice(), wanted.as_bytes(), "at {text}");
+        compare(&rt, &macros, text, wanted)?;
     }
     Ok(())
 }
@@ -138,8 +159,15 @@ fn the_operator_defined_is_a_number(rt: HostRuntime) -> Result<(), Fail> {
 fn a_directive_begins_its_line(rt: HostRuntime) -> Result<(), Fail> {
     let list = tokens_of(&rt, "#a b\nc # d\n\n  %: e\n#\n## f\n# g")?;
     let lines = lines_of(rt.alloc(), list)?;
-    let wanted: [Option<&str>; 7] =
-        [Some(" a b"), None, None, Some(" e"), Some(""), None, Some(" g")];
+    let wanted: [Option<&str>; 7] = [
+        Some(" a b"),
+        None,
+        None,
+        Some(" e"),
+        Some(""),
+        None,
+        Some(" g"),
+    ];
     assert_eq!(rt; lines.len(), wanted.len());
     for (line, wanted) in lines.as_slice().iter().zip(wanted) {
         let mut found = Vec::new(rt.alloc());
@@ -158,8 +186,15 @@ fn an_include_is_found_in_its_place(rt: HostRuntime) -> Result<(), Fail> {
     let alloc = rt.alloc();
     let mut files = Texts::new(alloc);
     for path in [
-        "src/a.h", "inc/a.h", "inc/b.h", "lib/b.h", "lib/c.h", "lib/stdint.h", "src/unity.h",
-        "src/mock_a.h", "src/mock_b.h",
+        "src/a.h",
+        "inc/a.h",
+        "inc/b.h",
+        "lib/b.h",
+        "lib/c.h",
+        "lib/stdint.h",
+        "src/unity.h",
+        "src/mock_a.h",
+        "src/mock_b.h",
     ] {
         files.put(path, path.as_bytes())?;
     }
