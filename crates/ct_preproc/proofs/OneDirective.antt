@@ -1,16 +1,14 @@
 -- A directive does one thing at most.
-use Rattle.std.proofs.Common.{◌≡◌, ℕ, Bool, true, false, List, [], ◌∷◌, Option, Some, None, sym, ◌∙◌}
+use Rattle.std.proofs.Common.{◌≡◌, ℕ, Bool, true, false, List, [], ◌∷◌, Option, Some, sym, ◌∙◌}
 use Rattle.std.specs.Prelude.{◌&&◌, not, Result, Ok, Err, MatchOption, codes}
 use Rattle.std.specs.Bool.{MatchBool}
 use Rattle.ct_base.specs.declared.lexical.Token.{Token}
 use Rattle.ct_directive.specs.declared.faults.PreFault.{PreFault}
 use Rattle.ct_directive.specs.declared.faults.PreKind.TheVariants as pre
-use Rattle.ct_directive.specs.declared.forms.Header.{Header}
 use Rattle.ct_directive.specs.Forms.{one_name, undefined_name, definition_in, is, first_other}
 use Rattle.ct_preproc.specs.declared.state.State.{State}
 use Rattle.ct_preproc.specs.declared.state.Place.{Place}
 use Rattle.ct_preproc.specs.declared.state.Conditional.{Conditional}
-use Rattle.ct_preproc.specs.declared.directives.Step.{Step}
 use Rattle.ct_preproc.specs.Directives.{Acts, ActiveActs, Answer, Changes, Elif, Includes, NamedActs, Opens, OtherActs, Parts, is_active, is_part, opened, otherwise, pragma, regrouped, skips, step_to}
 use Rattle.ct_preproc.specs.Reading.{Reads, fault_at, Holds, name_answer, HasDefined, undefines, Names}
 use Rattle.ct_preproc.proofs.OneAnswer.{HasOne, this_one, choice_one, case_one, reads_one}

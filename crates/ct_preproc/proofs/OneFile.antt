@@ -1,8 +1,6 @@
 -- A file has one unit or one first refusal.
-use Rattle.std.proofs.Common.{◌≡◌, ℕ, ◌+◌, ◌++◌, zero, suc, Bool, true, false, List, [], ◌∷◌, Option, Some, None, sym, ap, subst, ◌∙◌}
+use Rattle.std.proofs.Common.{◌≡◌, ℕ, zero, suc, Bool, true, false, List, [], ◌∷◌, Option, Some, sym, subst, ◌∙◌}
 use Rattle.std.specs.Prelude.{Result, Ok, Err, MatchOption}
-use Rattle.std.specs.Bool.{MatchBool}
-use Rattle.std.specs.FinMap.{get}
 use Rattle.std.specs.List.{list_any}
 use Rattle.std.specs.Str.{bytes_eq}
 use Rattle.ct_base.specs.declared.lexical.Token.{Token}
@@ -18,7 +16,6 @@ use Rattle.ct_directive.specs.declared.search.Target.{Target}
 use Rattle.ct_directive.specs.Forms.{first_other}
 use Rattle.ct_directive.specs.Headers.{BuiltIn}
 use Rattle.ct_directive.specs.Lines.{lines_of, directive_in, words_of}
-use Rattle.ct_directive.specs.Search.{Means}
 use Rattle.ct_preproc.specs.declared.state.State.{State}
 use Rattle.ct_preproc.specs.declared.state.Place.{Place}
 use Rattle.ct_preproc.specs.declared.state.Conditional.{Conditional}
@@ -56,7 +53,7 @@ module _ (laws : Laws) (limit : ℕ) (Opens : Place → ℕ → Header → State
   follows_to_one : (place : Place) (line : ℕ) (step : Step) → HasOne (FollowsTo limit Opens place line step)
   follows_to_one place line step =
       reads_one (Follows limit Opens place line step.header step.state)
-      (λ (after : State) answer. answer ≡ Ok (let next : Reading = record { state = after; opens = step.opens; text = [] } in next))
+      (λ after answer. answer ≡ Ok (record { state = after; opens = step.opens; text = [] }))
       (follows_one place line step.header step.state)
       (λ after. this_one (Ok (record { state = after; opens = step.opens; text = [] })))
 

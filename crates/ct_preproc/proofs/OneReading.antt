@@ -1,9 +1,7 @@
 -- What is done with the tokens of a file has one answer at most.
 use Rattle.std.proofs.Common.{◌≡◌, ℕ, ◌+◌, ◌-◌, ◌⊎◌, inl, inr, Bool, List, [], ◌∷◌, ◌++◌, Option, Some, None, sym, ap, ◌∙◌}
 use Rattle.std.specs.Prelude.{Result, Ok, Err, MatchOption}
-use Rattle.std.specs.Bool.{MatchBool}
 use Rattle.ct_base.specs.declared.lexical.Token.{Token}
-use Rattle.ct_token.specs.Lexing.{IsTokenization}
 use Rattle.ct_replace.specs.declared.definition.Macro.{Macro}
 use Rattle.ct_replace.specs.Definition.{is_malformed, macro_named, SameDefinition, Defines, IsRedefined}
 use Rattle.ct_macro.specs.declared.faults.MacroFault.{MacroFault}

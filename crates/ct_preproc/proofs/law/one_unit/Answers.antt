@@ -10,6 +10,6 @@ returns c = record {
     expansion = c.one_expansion.ensures.one;
     apart = c.one_expansion.ensures.apart;
     refusal = c.one_expansion.ensures.refusal;
-    condition = c.one_condition.ensures
-  } files folders heads headers tool defines path
+    condition = c.one_condition.ensures;
+  } files folders heads headers tool defines path;
 }
