@@ -2,3 +2,9 @@ mod Choices
 mod Defining
 mod Nesting
 mod Replacing
+mod OneAnswer
+mod OneLaws
+mod OneMeaning
+mod OneReading
+mod OneDirective
+mod OneFile

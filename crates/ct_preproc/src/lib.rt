@@ -5,6 +5,7 @@
 mod conditionals;
 mod directives;
 mod file;
+mod law;
 mod paths;
 mod reader;
 mod reading;
@@ -14,4 +15,5 @@ mod tests;
 mod units;
 
 pub use ct_directive::{Head, Heads, PreFault, PreKind};
+pub use law::one_unit;
 pub use units::{Include, SourceUnit, unit};
