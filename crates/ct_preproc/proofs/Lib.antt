@@ -8,3 +8,4 @@ mod OneMeaning
 mod OneReading
 mod OneDirective
 mod OneFile
+mod UnitSteps

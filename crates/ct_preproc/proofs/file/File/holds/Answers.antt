@@ -3,7 +3,13 @@ use Rattle.ct_base.specs.declared.lexical.Token.{Token}
 use Rattle.ct_directive.specs.Forms as forms
 use Rattle.ct_preproc.specs.Reading as spec
 use Rattle.ct_preproc.proofs.Choices.{on_next, on_same}
+use Rattle.ct_preproc.proofs.UnitSteps.{on_stop}
 use Rattle.ct_preproc.proofs.file.File.holds.Goals as goal
+
+pub returns-in_err-expanded : goal.returns-in_err-expanded
+returns-in_err-expanded c =
+    on_stop (spec.Expands c.args.self.now.place.now c.args.self.now.limit c.args.state (forms.without_defined c.args.state.macros c.args.tokens.now)) _
+    c.from_residual.result c.in_err-expanded.field-0.0 c.from_residual.ensures.1 c.in_err-expanded.ensures
 
 pub returns : goal.returns
 returns c =
