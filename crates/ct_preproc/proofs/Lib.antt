@@ -2,3 +2,4 @@ mod Choices
 mod Defining
 mod Nesting
 mod Replacing
+mod Stopping
