@@ -9,3 +9,4 @@ mod OneReading
 mod OneDirective
 mod OneFile
 mod UnitSteps
+mod Stopping
