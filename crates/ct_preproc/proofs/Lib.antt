@@ -2,4 +2,5 @@ mod Choices
 mod Defining
 mod Nesting
 mod Replacing
+mod Stopping
 mod UnitSteps

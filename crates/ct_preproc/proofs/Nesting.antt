@@ -1,7 +1,8 @@
 -- Includes that nest.
-use Rattle.std.proofs.Common.{◌≡◌, ℕ, ◌+◌, zero, suc, List, sym, subst, arith, Option, Some, None}
+use Rattle.std.proofs.Common.{◌≡◌, ℕ, ◌+◌, zero, suc, List, [], ◌∷◌, refl, sym, ap, subst, arith, Option, Some, None}
 use Rattle.std.specs.Prelude.{Result, Ok, Err, MatchOption}
 use Rattle.ct_base.specs.Answers.{OnAnswer}
+use Rattle.ct_base.specs.declared.lexical.Token.{Token}
 use Rattle.ct_base.specs.declared.limits.LimitKind.TheVariants.{IncludeDepth}
 use Rattle.ct_base.specs.declared.memory.Fail.{Fail}
 use Rattle.ct_base.specs.declared.memory.Fail.TheVariants.{Fault, OutOfMemory}
@@ -13,9 +14,11 @@ use Rattle.ct_directive.specs.declared.heads.Heads.{Heads}
 use Rattle.ct_directive.specs.declared.search.Target.{Target}
 use Rattle.ct_preproc.specs.declared.state.State.{State}
 use Rattle.ct_preproc.specs.declared.state.Place.{Place}
-use Rattle.ct_preproc.specs.Files.{Enters, Included, ReadsTarget}
+use Rattle.ct_preproc.specs.declared.reading.Reading.{Reading}
+use Rattle.ct_preproc.specs.Files.{Closes, Enters, Included, ReadsLine, ReadsLines, ReadsTarget}
 use Rattle.ct_directive.specs.Headers.{BuiltIn}
-use Rattle.ct_preproc.specs.Reading.{fault_at}
+use Rattle.ct_preproc.proofs.Stopping.{on_stopped}
+use Rattle.ct_preproc.specs.Reading.{IsFault, Reads, fault_at}
 use Rattle.ct_directive.specs.Search.{Means}
 
 -- a header that means a file is answered by what becomes of the file
@@ -26,6 +29,30 @@ pub on_found : {B : Type 0} (Means : Option Target → Type 0) (target : Target)
 on_found Means target (Ok x) Missing Found means found = (Some target, means, found)
 on_found Means target (Err (Fault x)) Missing Found means found = (Some target, means, found)
 on_found Means target (Err OutOfMemory) Missing Found means found = found
+
+module _ (limit : ℕ) (Enters : Place → ℕ → Header → State → Result State PreFault → Type 0) (place : Place) where
+  -- the lines of a file are read behind its next one
+  pub reads_on : (reading next : Reading) (line : List Token) (lines : List (List Token)) (Whole : Result State PreFault → Type 0)
+      → ((answer : Result State PreFault) → ReadsLines limit Enters place reading (line ∷ lines) answer → Whole answer)
+      → ReadsLine limit Enters place reading line (Ok next)
+      → (answer : Result State PreFault) → ReadsLines limit Enters place next lines answer → Whole answer
+  reads_on reading next line lines Whole whole does answer behind = whole answer (Ok next, does, behind)
+
+  -- a line that is refused ends it
+  pub reads_stopped : (reading : Reading) (line : List Token) (lines : List (List Token)) (Whole : Result State PreFault → Type 0) (fail : Fail PreFault)
+      → ((answer : Result State PreFault) → ReadsLines limit Enters place reading (line ∷ lines) answer → Whole answer)
+      → OnAnswer {T = Reading} {F = PreFault} (Err fail) (ReadsLine limit Enters place reading line) → OnAnswer {T = State} {F = PreFault} (Err fail) Whole
+  reads_stopped reading line lines Whole fail whole does =
+      on_stopped fail (ReadsLine limit Enters place reading line) (λ answer next. ReadsLines limit Enters place next lines answer) Whole does whole
+
+  -- behind the last line the file ends
+  pub reads_end : (reading : Reading) (lines : List (List Token)) (Whole : Result State PreFault → Type 0) (r : Result State (Fail PreFault))
+      → ((answer : Result State PreFault) → ReadsLines limit Enters place reading lines answer → Whole answer)
+      → lines ≡ [] → OnAnswer r (Closes place limit reading) → OnAnswer r Whole
+  reads_end reading lines Whole (Ok state) whole none closes = whole (Ok state) (subst (λ ls. ReadsLines limit Enters place reading ls (Ok state)) (sym none) closes)
+  reads_end reading lines Whole (Err (Fault fault)) whole none closes =
+      whole (Err fault) (subst (λ ls. ReadsLines limit Enters place reading ls (Err fault)) (sym none) closes)
+  reads_end reading lines Whole (Err OutOfMemory) whole none closes = tt
 
 module _ (files : Files) (folders : List (List ℕ)) (heads : Heads) (headers : List BuiltIn) (limit : ℕ) where
   -- no further include may nest
@@ -45,3 +72,19 @@ module _ (files : Files) (folders : List (List ℕ)) (heads : Heads) (headers : 
       let same : less ≡ more = omega arith in
       subst (λ (k : ℕ). OnAnswer r (λ answer. Included files folders heads headers limit place line header answer
       (ReadsTarget limit (Enters files folders heads headers limit k) place line header state answer))) same h
+
+  -- a header that means nothing is refused
+  pub enters_missing : (more : ℕ) (place : Place) (line : ℕ) (header : Header) (state : State) (fail : Fail PreFault)
+      → Means files folders heads headers place.path header None → IsFault fail (fault_at place line pre.MissingInclude)
+      → OnAnswer {T = State} {F = PreFault} (Err fail) (Enters files folders heads headers limit more place line header state)
+  enters_missing zero place line header state (Fault fault) means says = (None, means, ap (λ f. Err f) says)
+  enters_missing (suc more) place line header state (Fault fault) means says = (None, means, ap (λ f. Err f) says)
+  enters_missing more place line header state OutOfMemory means says = tt
+
+  -- one that means a file is refused where no further include may nest
+  pub enters_limit : (more : ℕ) (place : Place) (line : ℕ) (header : Header) (state : State) (target : Target) (fail : Fail PreFault) → more ≡ 0
+      → Means files folders heads headers place.path header (Some target) → IsFault fail (fault_at place line (pre.Limit IncludeDepth))
+      → OnAnswer {T = State} {F = PreFault} (Err fail) (Enters files folders heads headers limit more place line header state)
+  enters_limit zero place line header state target (Fault fault) none means says = (Some target, means, ap (λ f. Err f) says)
+  enters_limit zero place line header state target OutOfMemory none means says = tt
+  enters_limit (suc more) place line header state target fail none means says = absurd (omega arith)
