@@ -2,11 +2,11 @@ mod Choices
 mod Defining
 mod Nesting
 mod Replacing
+mod Stopping
+mod UnitSteps
 mod OneAnswer
 mod OneLaws
 mod OneMeaning
 mod OneReading
 mod OneDirective
 mod OneFile
-mod UnitSteps
-mod Stopping
