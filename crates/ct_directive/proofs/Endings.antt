@@ -1,14 +1,13 @@
 -- What stands at the ends of lists.
-use Rattle.std.proofs.Common.{◌≡◌, ℕ, ◌+◌, ◌<◌, ◌&&◌, ◌||◌, ◌==◌, not, nat_lt, nat_eq, Bool, true, false, cond, if◌then◌else◌, List, [], ◌∷◌, ◌++◌, length, drop, refl, sym, ap, subst, ◌∙◌, arith, Option, Some, None, Bor}
+use Rattle.std.proofs.Common.{◌≡◌, ℕ, nat_eq, Bool, true, false, if◌then◌else◌, List, [], ◌∷◌, ◌++◌, length, drop, refl, sym, ap, subst, ◌∙◌, arith, Option, Some, None, Bor}
 use Rattle.std.specs.Prelude.{MatchOption}
-use Rattle.std.specs.Option.{option_copied, option_map}
-use Rattle.std.specs.List.{list_any, starts_with}
-use Rattle.std.specs.Str.{IsCharBoundary, bytes_eq}
+use Rattle.std.specs.Option.{option_copied}
+use Rattle.std.specs.List.{starts_with}
+use Rattle.std.specs.Str.{IsCharBoundary}
 use Rattle.std.specs.Str.Pattern.{FindsTextPrefix, StripsPrefix}
 use Rattle.std.proofs.lemmas.Str.Pattern.{starts_text}
 use Rattle.ct_base.specs.declared.lexical.Token.{Token}
 use Rattle.ct_directive.specs.Lines.{is_line_end, unended}
-use Rattle.ct_directive.specs.Forms.{name_before, name_between}
 
 unended_at : (words : List Token) (last : Token) (ends : Bool) → is_line_end last ≡ ends → unended (words ++ last ∷ []) ≡ (if ends then words else words ++ last ∷ [])
 unended_at [] last ends e = ap (λ (b : Bool). if b then [] else last ∷ []) e

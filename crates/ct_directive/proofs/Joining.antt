@@ -1,5 +1,5 @@
 -- Where a folder and a name lead.
-use Rattle.std.proofs.Common.{◌≡◌, ℕ, Bool, true, false, List, [], ◌∷◌, ◌++◌, refl, sym, subst, ap, ◌∙◌, Option, None}
+use Rattle.std.proofs.Common.{◌≡◌, ℕ, Bool, true, false, List, [], ◌∷◌, ◌++◌, refl, sym, subst, ap, ◌∙◌, None}
 use Rattle.std.specs.Bool.{MatchBool}
 use Rattle.std.specs.FinMap.{get}
 use Rattle.ct_outside.specs.Files.{Files}

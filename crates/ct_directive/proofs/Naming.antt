@@ -1,5 +1,5 @@
 -- What header names mean.
-use Rattle.std.proofs.Common.{◌≡◌, ℕ, Bool, true, false, List, ◌∷◌, sym, subst, refl, Option, None, IfOk, inr}
+use Rattle.std.proofs.Common.{◌≡◌, ℕ, Bool, List, ◌∷◌, sym, subst, refl, Option, None, IfOk, inr}
 use Rattle.std.specs.Prelude.{Result}
 use Rattle.std.specs.Bool.{MatchBool}
 use Rattle.std.specs.Str.{IsUtf8, is_utf8}

@@ -1,11 +1,11 @@
 -- The forms of directives (C11 6.10). A directive is its tokens behind `#`, without the new-line.
-use Rattle.std.specs.Prelude.{◌≡◌, ℕ, ◌==◌, ◌&&◌, ◌||◌, not, Bool, true, false, List, [], ◌∷◌, ◌++◌, Option, Some, None, codes, if◌then◌else◌}
+use Rattle.std.specs.Prelude.{ℕ, ◌==◌, ◌&&◌, ◌||◌, not, Bool, true, false, List, [], ◌∷◌, ◌++◌, Option, Some, None, codes, if◌then◌else◌}
 use Rattle.std.specs.List.{list_any}
 use Rattle.std.specs.Option.{option_map, option_or}
 use Rattle.std.specs.Str.{bytes_eq}
 use Rattle.ct_base.specs.declared.lexical.Token.{Token}
 use Rattle.ct_base.specs.declared.lexical.TokenKind.{TokenKind}
-use Rattle.ct_base.specs.declared.lexical.TokenKind.TheVariants.{Name, Number, Char, Text, Punct, Other, Line}
+use Rattle.ct_base.specs.declared.lexical.TokenKind.TheVariants.{Name, Number, Text, Other}
 use Rattle.ct_replace.specs.declared.definition.Macro.{Macro}
 use Rattle.ct_directive.specs.declared.definitions.Parameters.{Parameters}
 use Rattle.ct_directive.specs.declared.forms.Header.{Header}

@@ -1,9 +1,9 @@
 -- The lines of a file, and which of them are directives (C11 6.10p2).
-use Rattle.std.specs.Prelude.{ℕ, ◌||◌, not, Bool, true, false, List, [], ◌∷◌, Option, Some, None, codes, filter, if◌then◌else◌}
+use Rattle.std.specs.Prelude.{◌||◌, not, Bool, true, false, List, [], ◌∷◌, Option, Some, None, codes, filter, if◌then◌else◌}
 use Rattle.std.specs.Str.{bytes_eq}
 use Rattle.ct_base.specs.declared.lexical.Token.{Token}
 use Rattle.ct_base.specs.declared.lexical.TokenKind.{TokenKind}
-use Rattle.ct_base.specs.declared.lexical.TokenKind.TheVariants.{Name, Number, Char, Text, Punct, Other, Line}
+use Rattle.ct_base.specs.declared.lexical.TokenKind.TheVariants.{Line}
 
 abbrev pub is_line_kind : TokenKind → Bool
 is_line_kind Line = true

@@ -10,6 +10,8 @@ mod headers;
 mod heads;
 mod lines;
 mod search;
+#[cfg(test)]
+mod tests;
 
 pub use conditions::{has_operator, is_defined, without_defined};
 pub use definitions::{definition_in, object_like};

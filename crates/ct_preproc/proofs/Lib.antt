@@ -3,3 +3,4 @@ mod Defining
 mod Nesting
 mod Replacing
 mod Stopping
+mod UnitSteps

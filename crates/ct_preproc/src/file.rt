@@ -8,7 +8,10 @@ ghost use Rattle.ct_preproc.specs.Reading as spec;
 
 use crate::state::{Place, State};
 use ct_base::{Fail, Items, LimitKind, Out, Text, Token, TokenKind};
-use ct_directive::{Header, PreFault, PreKind, definition_in, has_operator, header_in, is_defined, quoted_header, undefined_name, without_defined};
+use ct_directive::{
+    Header, PreFault, PreKind, definition_in, has_operator, header_in, is_defined, quoted_header,
+    undefined_name, without_defined,
+};
 use ct_macro::{MacroKind, expand};
 use ct_ppexpr::condition;
 use std::alloc::Global;

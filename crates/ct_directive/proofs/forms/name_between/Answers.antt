@@ -1,4 +1,4 @@
-use Rattle.std.proofs.Common.{rules, ◌≡◌, ◌==◌, arith, true, false, length, [], ◌∷◌, ◌++◌, ◌≢◌}
+use Rattle.std.proofs.Common.{rules, ◌≡◌, ◌==◌, true, false, length, [], ◌∷◌, ◌++◌, ◌≢◌}
 use Rattle.std.specs.List.{list_any}
 use Rattle.ct_directive.proofs.Names.{other_end_at, name_twice_at, name_is_at}
 use Rattle.ct_directive.proofs.forms.name_between.Goals as goal

@@ -1,5 +1,4 @@
 use Rattle.std.proofs.Common.{rules, ◌≡◌, true, false, Some, None}
-use Rattle.ct_directive.specs.Headers.{built_in_headers}
 use Rattle.ct_directive.specs.Search as spec
 use Rattle.ct_directive.proofs.Choosing.{ok_true, ok_false, ok_none, ok_some}
 use Rattle.ct_directive.proofs.search.Search.named.Goals as goal
