@@ -1,5 +1,5 @@
 -- Includes that nest.
-use Rattle.std.proofs.Common.{◌≡◌, ℕ, ◌+◌, zero, suc, List, [], ◌∷◌, refl, sym, ap, subst, arith, Option, Some, None}
+use Rattle.std.proofs.Common.{◌≡◌, ◌≤◌, ℕ, ◌+◌, zero, suc, List, [], ◌∷◌, length, sym, ap, subst, arith, Option, Some, None}
 use Rattle.std.specs.Prelude.{Result, Ok, Err, MatchOption}
 use Rattle.ct_base.specs.Answers.{OnAnswer}
 use Rattle.ct_base.specs.declared.lexical.Token.{Token}
@@ -39,20 +39,21 @@ module _ (limit : ℕ) (Enters : Place → ℕ → Header → State → Result S
   reads_on reading next line lines Whole whole does answer behind = whole answer (Ok next, does, behind)
 
   -- a line that is refused ends it
-  pub reads_stopped : (reading : Reading) (line : List Token) (lines : List (List Token)) (Whole : Result State PreFault → Type 0) (fail : Fail PreFault)
+  pub reads_stopped : (r : Result State (Fail PreFault)) (reading : Reading) (line : List Token) (lines : List (List Token)) (Whole : Result State PreFault → Type 0) (fail : Fail PreFault)
       → ((answer : Result State PreFault) → ReadsLines limit Enters place reading (line ∷ lines) answer → Whole answer)
-      → OnAnswer {T = Reading} {F = PreFault} (Err fail) (ReadsLine limit Enters place reading line) → OnAnswer {T = State} {F = PreFault} (Err fail) Whole
-  reads_stopped reading line lines Whole fail whole does =
-      on_stopped fail (ReadsLine limit Enters place reading line) (λ answer next. ReadsLines limit Enters place next lines answer) Whole does whole
+      → r ≡ Err fail → OnAnswer {T = Reading} {F = PreFault} (Err fail) (ReadsLine limit Enters place reading line) → OnAnswer r Whole
+  reads_stopped r reading line lines Whole fail whole passed does =
+      subst (λ (r : Result State (Fail PreFault)). OnAnswer r Whole) (sym passed)
+      (on_stopped fail (ReadsLine limit Enters place reading line) (λ answer next. ReadsLines limit Enters place next lines answer) Whole does whole)
 
   -- behind the last line the file ends
   pub reads_end : (reading : Reading) (lines : List (List Token)) (Whole : Result State PreFault → Type 0) (r : Result State (Fail PreFault))
       → ((answer : Result State PreFault) → ReadsLines limit Enters place reading lines answer → Whole answer)
-      → lines ≡ [] → OnAnswer r (Closes place limit reading) → OnAnswer r Whole
-  reads_end reading lines Whole (Ok state) whole none closes = whole (Ok state) (subst (λ ls. ReadsLines limit Enters place reading ls (Ok state)) (sym none) closes)
-  reads_end reading lines Whole (Err (Fault fault)) whole none closes =
-      whole (Err fault) (subst (λ ls. ReadsLines limit Enters place reading ls (Err fault)) (sym none) closes)
-  reads_end reading lines Whole (Err OutOfMemory) whole none closes = tt
+      → length lines ≡ 0 → OnAnswer r (Closes place limit reading) → OnAnswer r Whole
+  reads_end reading [] Whole (Ok state) whole none closes = whole (Ok state) closes
+  reads_end reading [] Whole (Err (Fault fault)) whole none closes = whole (Err fault) closes
+  reads_end reading [] Whole (Err OutOfMemory) whole none closes = tt
+  reads_end reading (line ∷ lines) Whole r whole some closes = absurd (omega arith)
 
 module _ (files : Files) (folders : List (List ℕ)) (heads : Heads) (headers : List BuiltIn) (limit : ℕ) where
   -- no further include may nest
@@ -82,9 +83,9 @@ module _ (files : Files) (folders : List (List ℕ)) (heads : Heads) (headers : 
   enters_missing more place line header state OutOfMemory means says = tt
 
   -- one that means a file is refused where no further include may nest
-  pub enters_limit : (more : ℕ) (place : Place) (line : ℕ) (header : Header) (state : State) (target : Target) (fail : Fail PreFault) → more ≡ 0
+  pub enters_limit : (more : ℕ) (place : Place) (line : ℕ) (header : Header) (state : State) (target : Target) (fail : Fail PreFault) → (1 ≤ more → ⊥)
       → Means files folders heads headers place.path header (Some target) → IsFault fail (fault_at place line (pre.Limit IncludeDepth))
       → OnAnswer {T = State} {F = PreFault} (Err fail) (Enters files folders heads headers limit more place line header state)
   enters_limit zero place line header state target (Fault fault) none means says = (Some target, means, ap (λ f. Err f) says)
   enters_limit zero place line header state target OutOfMemory none means says = tt
-  enters_limit (suc more) place line header state target fail none means says = absurd (omega arith)
+  enters_limit (suc more) place line header state target fail none means says = absurd (none (omega arith))

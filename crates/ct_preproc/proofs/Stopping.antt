@@ -1,7 +1,7 @@
 -- What a step that is refused, or the last one, leaves of what reads it.
 use Rattle.std.proofs.Common.{◌≡◌, refl, sym, ap, subst}
 use Rattle.std.specs.Prelude.{Result, Ok, Err}
-use Rattle.ct_base.specs.Answers.{OnAnswer}
+use Rattle.ct_base.specs.Answers.{IfFault, OnAnswer}
 use Rattle.ct_base.specs.declared.memory.Fail.{Fail}
 use Rattle.ct_base.specs.declared.memory.Fail.TheVariants.{Fault, OutOfMemory}
 use Rattle.ct_directive.specs.declared.faults.PreFault.{PreFault}
@@ -24,3 +24,9 @@ on_passed r fail Does next passed does =
 pub on_done : {A B : Type 0} (Does : Result A PreFault → Type 0) (value : A) (done : B) (after : A → B) → Does (Ok value) → done ≡ after value
     → Reads {A = A} {B = B} Does (Ok done) (λ found. ◌≡◌ {A = Result B PreFault} (Ok done) (Ok (after found)))
 on_done Does value done after does same = (Ok value, does, ap (λ v. Ok v) same)
+
+-- what is refused while it is read is refused
+pub on_open : {A B : Type 0} (r : Result B (Fail PreFault)) (fail : Fail PreFault) (Does : Result A PreFault → Type 0) (next : Result B PreFault → A → Type 0)
+    → r ≡ Err fail → IfFault {T = A} {F = PreFault} (Err fail) (λ fault. Does (Err fault)) → OnAnswer r (λ answer. Reads Does answer (next answer))
+on_open {A} r (Fault fault) Does next passed does = on_passed {A = A} r (Fault fault) Does next passed does
+on_open {A} r OutOfMemory Does next passed does = on_passed {A = A} r OutOfMemory Does next passed tt

@@ -25,7 +25,7 @@ pub struct Reader<'a, F> {
 impl<F: Finder> Reader<'_, F> {
     /// What a header name means in the file that is read, if it means anything.
     fn target(&self, file: File<'_>, header: &Header) -> Mem<Option<Target>>
-        ensures { IfOk result (λ target. search.Means (F.texts self.now.search.finder.now) self.now.search.folders.now self.now.search.heads.now built_in_headers file.place.now.path header.now target) }
+        ensures { IfOk result (λ target. search.Means (F.texts self.now.search.finder.now) self.now.search.folders.now self.now.search.heads.now built_in_headers file.entry.place.now.path header.now target) }
     {
         self.search
             .target(file.alloc, file.place.path.as_str(), header)
@@ -42,7 +42,7 @@ impl<F: Finder> Reader<'_, F> {
         state: State,
     ) -> Out<State, PreFault>
         requires { file.place.now.depth + more < 2 ^ 32 }
-        ensures { OnAnswer result (spec.Enters (F.texts self.now.search.finder.now) self.now.search.folders.now self.now.search.heads.now built_in_headers file.limit more file.place.now line header state) }
+        ensures { OnAnswer result (spec.Enters (F.texts self.now.search.finder.now) self.now.search.folders.now self.now.search.heads.now built_in_headers file.entry.limit more file.entry.place.now line header state) }
     {
         let Some(target) = self.target(file, &header)? else {
             return Err(file.fault(line, PreKind::MissingInclude));
@@ -66,7 +66,7 @@ impl<F: Finder> Reader<'_, F> {
         target: Target,
     ) -> Out<State, PreFault>
         requires { file.place.now.depth + more + 1 < 2 ^ 32 }
-        ensures { OnAnswer result (λ answer. spec.ReadsTarget file.limit (spec.Enters (F.texts self.now.search.finder.now) self.now.search.folders.now self.now.search.heads.now built_in_headers file.limit more) file.place.now line header state answer target) }
+        ensures { OnAnswer result (λ answer. spec.ReadsTarget file.entry.limit (spec.Enters (F.texts self.now.search.finder.now) self.now.search.folders.now self.now.search.heads.now built_in_headers file.entry.limit more) file.entry.place.now line header state answer target) }
     {
         let once = is_among(target.path.as_str(), state.once.as_slice());
         let Header { name, quoted: _ } = header;
@@ -95,7 +95,7 @@ impl<F: Finder> Reader<'_, F> {
         state: State,
     ) -> Out<State, PreFault>
         requires { file.place.now.depth + more + 1 < 2 ^ 32 }
-        ensures { OnAnswer result (spec.Returns file.limit (spec.Enters (F.texts self.now.search.finder.now) self.now.search.folders.now self.now.search.heads.now built_in_headers file.limit more) file.place.now target state) }
+        ensures { OnAnswer result (spec.Returns file.entry.limit (spec.Enters (F.texts self.now.search.finder.now) self.now.search.folders.now self.now.search.heads.now built_in_headers file.entry.limit more) file.entry.place.now target state) }
     {
         let Target {
             path,
@@ -128,7 +128,7 @@ impl<F: Finder> Reader<'_, F> {
         state: State,
     ) -> Out<State, PreFault>
         requires { file.place.now.depth + more < 2 ^ 32 }
-        ensures { OnAnswer result (spec.Follows file.limit (spec.Enters (F.texts self.now.search.finder.now) self.now.search.folders.now self.now.search.heads.now built_in_headers file.limit more) file.place.now line header state) }
+        ensures { OnAnswer result (spec.Follows file.entry.limit (spec.Enters (F.texts self.now.search.finder.now) self.now.search.folders.now self.now.search.heads.now built_in_headers file.entry.limit more) file.entry.place.now line header state) }
     {
         match header {
             Some(header) => self.enter(more, file, line, header, state),
@@ -140,7 +140,7 @@ impl<F: Finder> Reader<'_, F> {
     #[cycle(reads)]
     fn follow(&self, more: u32, file: File<'_>, line: u32, step: Step) -> Out<Reading, PreFault>
         requires { file.place.now.depth + more < 2 ^ 32 }
-        ensures { OnAnswer result (spec.FollowsTo file.limit (spec.Enters (F.texts self.now.search.finder.now) self.now.search.folders.now self.now.search.heads.now built_in_headers file.limit more) file.place.now line step) }
+        ensures { OnAnswer result (spec.FollowsTo file.entry.limit (spec.Enters (F.texts self.now.search.finder.now) self.now.search.folders.now self.now.search.heads.now built_in_headers file.entry.limit more) file.entry.place.now line step) }
     {
         let Step {
             state,
@@ -167,7 +167,7 @@ impl<F: Finder> Reader<'_, F> {
         words: &[Token],
     ) -> Out<Reading, PreFault>
         requires { file.place.now.depth + more < 2 ^ 32 }
-        ensures { OnAnswer result (spec.ActsThen file.limit (spec.Enters (F.texts self.now.search.finder.now) self.now.search.folders.now self.now.search.heads.now built_in_headers file.limit more) file.place.now line opens words.now state) }
+        ensures { OnAnswer result (spec.ActsThen file.entry.limit (spec.Enters (F.texts self.now.search.finder.now) self.now.search.folders.now self.now.search.heads.now built_in_headers file.entry.limit more) file.entry.place.now line opens words.now state) }
     {
         let step = file.act(line, state, opens, words)?;
         self.follow(more, file, line, step)
@@ -184,7 +184,7 @@ impl<F: Finder> Reader<'_, F> {
         words: &[Token],
     ) -> Out<Reading, PreFault>
         requires { file.place.now.depth + more < 2 ^ 32 }
-        ensures { OnAnswer result (spec.ReadsDirective file.limit (spec.Enters (F.texts self.now.search.finder.now) self.now.search.folders.now self.now.search.heads.now built_in_headers file.limit more) file.place.now reading line words.now) }
+        ensures { OnAnswer result (spec.ReadsDirective file.entry.limit (spec.Enters (F.texts self.now.search.finder.now) self.now.search.folders.now self.now.search.heads.now built_in_headers file.entry.limit more) file.entry.place.now reading line words.now) }
     {
         let Reading { state, opens, text } = reading;
         let state = file.ended(state, text)?;
@@ -202,7 +202,7 @@ impl<F: Finder> Reader<'_, F> {
         line: Items<Token>,
     ) -> Out<Reading, PreFault>
         requires { file.place.now.depth + more < 2 ^ 32 }
-        ensures { OnAnswer result (spec.ReadsLine file.limit (spec.Enters (F.texts self.now.search.finder.now) self.now.search.folders.now self.now.search.heads.now built_in_headers file.limit more) file.place.now reading line) }
+        ensures { OnAnswer result (spec.ReadsLine file.entry.limit (spec.Enters (F.texts self.now.search.finder.now) self.now.search.folders.now self.now.search.heads.now built_in_headers file.entry.limit more) file.entry.place.now reading line) }
     {
         match directive_in(line.as_slice()) {
             Some((hash, words)) => self.directive(more, file, reading, hash.span.line, words),
@@ -220,7 +220,7 @@ impl<F: Finder> Reader<'_, F> {
         lines: Vec<Items<Token>>,
     ) -> Out<State, PreFault>
         requires { file.place.now.depth + more < 2 ^ 32 }
-        ensures { OnAnswer result (spec.ReadsLines file.limit (spec.Enters (F.texts self.now.search.finder.now) self.now.search.folders.now self.now.search.heads.now built_in_headers file.limit more) file.place.now reading lines.items) }
+        ensures { OnAnswer result (spec.ReadsLines file.entry.limit (spec.Enters (F.texts self.now.search.finder.now) self.now.search.folders.now self.now.search.heads.now built_in_headers file.entry.limit more) file.entry.place.now reading lines.items) }
     {
         let mut reading = reading;
         for line in lines {
@@ -240,7 +240,7 @@ impl<F: Finder> Reader<'_, F> {
         state: State,
     ) -> Out<State, PreFault>
         requires { file.place.now.depth + more < 2 ^ 32 }
-        ensures { OnAnswer result (spec.ReadsFile file.limit (spec.Enters (F.texts self.now.search.finder.now) self.now.search.folders.now self.now.search.heads.now built_in_headers file.limit more) file.place.now text.now built_in state) }
+        ensures { OnAnswer result (spec.ReadsFile file.entry.limit (spec.Enters (F.texts self.now.search.finder.now) self.now.search.folders.now self.now.search.heads.now built_in_headers file.entry.limit more) file.entry.place.now text.now built_in state) }
     {
         let tokens = numbered(file, text, built_in, &state)?;
         let lines = lines_of(file.alloc, tokens)?;
@@ -251,8 +251,8 @@ impl<F: Finder> Reader<'_, F> {
 
 /// The tokens of a file, by the number that it has in a state or is given there.
 fn numbered(file: File<'_>, text: &[u8], built_in: bool, state: &State) -> Out<Vec<Token>, PreFault>
-    ensures tokens { IfOk result (λ tokens. steps.IsLexed file.place.now built_in (steps.number_of file.place.now.path state.now.files) text.now (Ok tokens.items)) }
-    ensures open { IfFault result (λ fault. steps.IsLexed file.place.now built_in (steps.number_of file.place.now.path state.now.files) text.now (Err fault)) }
+    ensures tokens { IfOk result (λ tokens. steps.IsLexed file.entry.place.now built_in (steps.number_of file.entry.place.now.path state.now.files) text.now (Ok tokens.items)) }
+    ensures open { IfFault result (λ fault. steps.IsLexed file.entry.place.now built_in (steps.number_of file.entry.place.now.path state.now.files) text.now (Err fault)) }
 {
     let number = number_of(file.place.path.as_str(), state.files.as_slice());
     file.lexed(built_in, number, text)
