@@ -1,5 +1,8 @@
 //! Answers to questions.
 
+ghost use Rattle.std.specs.Prelude.{◌≡◌};
+ghost use Rattle.ct_ctype.specs.Operation as spec;
+
 use crate::layout::push_layout;
 use crate::names::{binary_named, fault_name, kind_named, name_of, unary_named};
 use ct_base::{BinaryOp, FaultKind, Mem};
@@ -74,7 +77,9 @@ fn push_common(a: &str, b: &str, out: &mut String) -> Mem<()> {
     }
 }
 
-fn is_shift(op: BinaryOp) -> bool {
+fn is_shift(op: BinaryOp) -> bool
+    ensures { result ≡ spec.is_shift op }
+{
     match op {
         BinaryOp::ShiftLeft | BinaryOp::ShiftRight => true,
         _ => false,
@@ -98,7 +103,10 @@ fn push_binary(
     if !kind.holds(left) {
         return push_none(out);
     }
-    if is_shift(op) || kind.holds(right) {
+    if is_shift(op) {
+        return push_result(alloc, binary(op, kind, left, right), out);
+    }
+    if kind.holds(right) {
         return push_result(alloc, binary(op, kind, left, right), out);
     }
     push_none(out)

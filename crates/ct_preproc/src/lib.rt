@@ -10,8 +10,6 @@ mod paths;
 mod reader;
 mod reading;
 mod state;
-#[cfg(test)]
-mod tests;
 mod units;
 
 pub use ct_directive::{Head, Heads, PreFault, PreKind};
