@@ -1,11 +1,19 @@
 //! What is left out of the language: keywords, constants and string literals that no unit may have.
 #![tactic(auto)]
 
-ghost use Rattle.std.specs.Prelude.{◌≡◌, IfOk, MatchOption, All, ⊥};
-ghost use Rattle.std.specs.Bool.{MatchBool};
-ghost use Rattle.ct_syntax.specs.Words.{is_left_out};
-ghost use Rattle.ct_left_out.specs.Unsupported.{IsUnsupported, IsFirst};
+mod law;
+#[cfg(test)]
+mod tests;
 
+ghost use Rattle.std.specs.Prelude.{◌≡◌, IfOk, MatchOption, All};
+ghost use Rattle.std.specs.Bool.{MatchBool};
+ghost use Rattle.std.specs.List.{list_any};
+ghost use Rattle.std.specs.Str.{bytes_eq};
+ghost use Rattle.ct_base.specs.declared.lexical.TokenKind.TheVariants as kind;
+ghost use Rattle.ct_syntax.specs.Words.{is_left_out};
+ghost use Rattle.ct_left_out.specs.Unsupported.{IsUnsupported, IsUnsupportedText, IsFirst};
+
+pub use crate::law::one_first;
 use ct_base::{Mem, Token, TokenKind};
 use ct_token::{characters, integer};
 use std::alloc::Global;
@@ -31,11 +39,37 @@ const LEFT_OUT: [&[u8]; 17] = [
     b"__func__",
 ];
 
+fn is_among(text: &[u8], words: &[&[u8]]) -> bool
+    ensures { result ≡ list_any (λ word. bytes_eq text.now word.now) words.now }
+{
+    words.iter().any(|word| text == *word)
+}
+
 /// Whether a name is a keyword that is left out.
 fn is_left_out_word(text: &[u8]) -> bool
     ensures { result ≡ is_left_out text.now }
 {
-    LEFT_OUT.iter().any(|word| text == *word)
+    is_among(text, &LEFT_OUT)
+}
+
+/// Whether a text spells no bytes, or other than one.
+fn spells_no_character(alloc: Global, text: &[u8]) -> Mem<bool>
+    ensures { IfOk result (λ left_out. MatchBool left_out (IsUnsupportedText kind.Char text.now) (IsUnsupportedText kind.Char text.now → ⊥)) }
+{
+    match characters(alloc, text)? {
+        Some(bytes) => Ok(bytes.len() != 1),
+        None => Ok(true),
+    }
+}
+
+/// Whether a text spells no bytes.
+fn spells_nothing(alloc: Global, text: &[u8]) -> Mem<bool>
+    ensures { IfOk result (λ left_out. MatchBool left_out (IsUnsupportedText kind.Text text.now) (IsUnsupportedText kind.Text text.now → ⊥)) }
+{
+    match characters(alloc, text)? {
+        Some(_) => Ok(false),
+        None => Ok(true),
+    }
 }
 
 /// Whether a token is left out.
@@ -46,11 +80,8 @@ fn is_unsupported(alloc: Global, token: &Token) -> Mem<bool>
     match token.kind {
         TokenKind::Name => Ok(is_left_out_word(text)),
         TokenKind::Number => Ok(integer(text).is_none()),
-        TokenKind::Char => match characters(alloc, text)? {
-            Some(bytes) => Ok(bytes.len() != 1),
-            None => Ok(true),
-        },
-        TokenKind::Text => Ok(characters(alloc, text)?.is_none()),
+        TokenKind::Char => spells_no_character(alloc, text),
+        TokenKind::Text => spells_nothing(alloc, text),
         TokenKind::Punct | TokenKind::Other | TokenKind::Line => Ok(false),
     }
 }
