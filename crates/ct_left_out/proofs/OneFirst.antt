@@ -23,6 +23,6 @@ pub same_first : (tokens : List Token) (a b : ℕ) → IsFirst tokens a → IsFi
 same_first tokens a b one other =
     one.place_is
     ∙ same_before one.before other.before one.token other.token one.after other.after
-      (recursion_from_All IsSupported one.before one.supported) (recursion_from_All IsSupported other.before other.supported)
-      one.unsupported other.unsupported (sym one.split ∙ other.split)
+    (recursion_from_All IsSupported one.before one.supported) (recursion_from_All IsSupported other.before other.supported)
+    one.unsupported other.unsupported (sym one.split ∙ other.split)
     ∙ sym other.place_is

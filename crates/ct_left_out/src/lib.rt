@@ -18,7 +18,7 @@ use ct_base::{Mem, Token, TokenKind};
 use ct_token::{characters, integer};
 use std::alloc::Global;
 
-/// The keywords of C, and of its compilers, that are left out.
+/// The keywords of C and of its compilers that are left out (C11 6.4.1), and `__func__` (6.4.2.2).
 const LEFT_OUT: [&[u8]; 17] = [
     b"float",
     b"double",
