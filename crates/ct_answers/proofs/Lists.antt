@@ -1,6 +1,6 @@
 -- Each list of tokens has an expansion or a first refusal: what may still be put and what is still to be read grow
 -- smaller together, by a measure.
-use Rattle.std.proofs.Common.{◌≡◌, ℕ, suc, zero, ◌+◌, ◌-◌, ◌*◌, ◌<◌, ◌≤◌, false, List, [], ◌∷◌, ◌++◌, length, refl, arith, ◌⊎◌, inl, inr, length-append}
+use Rattle.std.proofs.Common.{ℕ, suc, zero, ◌+◌, ◌-◌, ◌*◌, ◌<◌, ◌≤◌, false, List, [], ◌∷◌, ◌++◌, length, refl, arith, ◌⊎◌, inl, inr, length-append}
 use Rattle.std.specs.Prelude.{map}
 use Rattle.std.proofs.lemmas.Bool.{cases_lt}
 use Rattle.ct_base.specs.declared.lexical.Token.{Token}

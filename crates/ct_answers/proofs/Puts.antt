@@ -1,7 +1,6 @@
 -- A call puts a list, or none.
 use Rattle.std.proofs.Common.{◌≡◌, ℕ, Bool, true, false, List, [], ◌∷◌, ◌++◌, refl, sym, ap, ◌∙◌, subst, ◌⊎◌, inl, inr, MatchBool}
 use Rattle.std.specs.Prelude.{map, filter}
-use Rattle.ct_base.specs.declared.lexical.Token.{Token}
 use Rattle.ct_base.specs.declared.lexical.TokenKind.{TokenKind}
 use Rattle.ct_replace.specs.declared.marked.Marked.{Marked}
 use Rattle.ct_replace.specs.declared.call.Operand.{Operand}
@@ -64,9 +63,9 @@ module _ (tells : EachIsOne) (law : OneTokenization) where
           elim (joins left (tokens operand)) [
             | inr none ↦ inr (λ put is. none is.0 is.1)
             | inl one ↦ elim (more one.0) [
-                | inl rest ↦ inl (rest.0, (one.0, one.1, rest.1))
-                | inr none ↦ inr (λ put is. none put (subst (λ (j : List Marked). Puts tokens j body put) (one_joint law left (tokens operand) is.0 one.0 is.1 one.1) is.2))
-              ]
+              | inl rest ↦ inl (rest.0, (one.0, one.1, rest.1))
+              | inr none ↦ inr (λ put is. none put (subst (λ (j : List Marked). Puts tokens j body put) (one_joint law left (tokens operand) is.0 one.0 is.1 one.1) is.2))
+            ]
           ]
       by_paste false more =
           elim (more (tokens operand)) [
