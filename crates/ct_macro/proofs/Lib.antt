@@ -1,5 +1,5 @@
 mod Tables
 mod Steps
-mod Weights
+pub mod Weights
 mod Unique
 mod Readings

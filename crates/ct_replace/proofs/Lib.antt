@@ -1,5 +1,5 @@
 mod Texts
 mod Forms
-mod Collecting
-mod Pasting
-mod Substituting
+pub mod Collecting
+pub mod Pasting
+pub mod Substituting
