@@ -9,8 +9,6 @@ mod paths;
 mod reader;
 mod reading;
 mod state;
-#[cfg(test)]
-mod tests;
 mod units;
 
 pub use ct_directive::{Head, Heads, PreFault, PreKind};

@@ -17,9 +17,11 @@ returns-in_err-expanded c =
 
 pub returns-in-Some : goal.returns-in-Some
 returns-in-Some c =
-    let some : quoted_header c.in_ok-expanded.expanded ≡ Some c.in-Some.header = search rules in
-    (Ok (c.in_ok-expanded.expanded, c.in_ok-expanded.state), c.in_ok-expanded.ensures,
-    sym (ap (spec.quoted_answer c.args.self.now.place.now c.args.line c.in_ok-expanded.state) some))
+    let some : quoted_header c.in_ok-expanded.expanded ≡ Some c.in-Some.header = search rules in (
+      Ok (c.in_ok-expanded.expanded, c.in_ok-expanded.state),
+      c.in_ok-expanded.ensures,
+      sym (ap (spec.quoted_answer c.args.self.now.place.now c.args.line c.in_ok-expanded.state) some),
+    )
 
 pub returns : goal.returns
 returns c =

@@ -37,7 +37,7 @@ enter-returns-in-None g t c =
     let heads = c.args.self.now.search.heads.now in
     let place = c.args.file.place.now in
     let means : Means files folders heads built_in_headers place.path c.args.header (Some c.in-Some.target) =
-        subst (λ (target : Option Target). Means files folders heads built_in_headers place.path c.args.header target) c.in-Some.is c.in_ok-target.ensures in
+    subst (λ (target : Option Target). Means files folders heads built_in_headers place.path c.args.header target) c.in-Some.is c.in_ok-target.ensures in
     enters_limit files folders heads built_in_headers c.args.file.limit c.args.more place c.args.line c.args.header c.args.state c.in-Some.target c.fault-in-None.result
     c.in-None.ensures means c.fault-in-None.ensures
 
@@ -49,7 +49,7 @@ enter-returns-in-Some-checked_sub g t c =
     let place = c.args.file.place.now in
     let one : c.in-Some-checked_sub.less + 1 ≡ c.args.more = omega arith in
     let means : Means files folders heads built_in_headers place.path c.args.header (Some c.in-Some.target) =
-        subst (λ (target : Option Target). Means files folders heads built_in_headers place.path c.args.header target) c.in-Some.is c.in_ok-target.ensures in
+    subst (λ (target : Option Target). Means files folders heads built_in_headers place.path c.args.header target) c.in-Some.is c.in_ok-target.ensures in
     enters_some files folders heads built_in_headers c.args.file.limit c.in-Some-checked_sub.less c.args.more place c.args.line c.args.header c.args.state c.enter_target.result one
     (on_found (λ target. Means files folders heads built_in_headers place.path c.args.header target) c.in-Some.target c.enter_target.result
     (λ answer. answer ≡ Err (fault_at place c.args.line pre.MissingInclude))
@@ -73,10 +73,11 @@ inside-returns g t c =
     let place = c.args.file.place.now in
     let inner : Place = record { path = c.args.target.path; depth = place.depth + 1 } in
     let text : c.as_slice.result.now ≡ c.args.target.text = search rules in
-    let macros : c.in_ok-state-2.field-0 ≡ with_path place.path c.in_ok-state.state.macros = search rules in
-    (Ok c.in_ok-state.state,
-    subst (λ (text : List ℕ). spec.ReadsFile c.args.file.limit enters inner text c.args.target.built_in c.args.state (Ok c.in_ok-state.state)) text c.in_ok-state.ensures,
-    ap (λ (macros : List Macro). Ok (record c.in_ok-state.state { macros = macros })) macros)
+    let macros : c.in_ok-state-2.field-0 ≡ with_path place.path c.in_ok-state.state.macros = search rules in (
+      Ok c.in_ok-state.state,
+      subst (λ (text : List ℕ). spec.ReadsFile c.args.file.limit enters inner text c.args.target.built_in c.args.state (Ok c.in_ok-state.state)) text c.in_ok-state.ensures,
+      ap (λ (macros : List Macro). Ok (record c.in_ok-state.state { macros = macros })) macros,
+    )
 
 pub follow-returns-in_err-state : goal.follow-returns-in_err-state
 follow-returns-in_err-state g t c =
