@@ -18,7 +18,7 @@ use Rattle.ct_preproc.specs.declared.reading.Reading.{Reading}
 use Rattle.ct_preproc.specs.Files.{Closes, Enters, Included, ReadsLine, ReadsLines, ReadsTarget}
 use Rattle.ct_directive.specs.Headers.{BuiltIn}
 use Rattle.ct_preproc.proofs.Stopping.{on_stopped}
-use Rattle.ct_preproc.specs.Reading.{IsFault, Reads, fault_at}
+use Rattle.ct_preproc.specs.Reading.{IsFault, fault_at}
 use Rattle.ct_directive.specs.Search.{Means}
 
 -- a header that means a file is answered by what becomes of the file

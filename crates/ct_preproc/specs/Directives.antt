@@ -1,6 +1,6 @@
 -- What a directive does (C11 6.10): it changes the state, it opens, goes on with or closes a conditional, or it includes
 -- a header.
-use Rattle.std.specs.Prelude.{◌≡◌, ℕ, ◌&&◌, ◌||◌, not, Bool, true, false, List, [], ◌∷◌, Option, Some, None, Result, Ok, Err, MatchOption, codes, if◌then◌else◌}
+use Rattle.std.specs.Prelude.{◌≡◌, ℕ, ◌&&◌, ◌||◌, not, Bool, true, false, List, [], ◌∷◌, Some, None, Result, Ok, Err, MatchOption, codes, if◌then◌else◌}
 use Rattle.std.specs.Bool.{MatchBool}
 use Rattle.ct_base.specs.declared.lexical.Token.{Token}
 use Rattle.ct_directive.specs.declared.faults.PreFault.{PreFault}

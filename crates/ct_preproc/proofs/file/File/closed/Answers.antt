@@ -1,4 +1,4 @@
-use Rattle.std.proofs.Common.{rules, arith, ◌≡◌}
+use Rattle.std.proofs.Common.{◌≡◌}
 use Rattle.ct_preproc.specs.Files as spec
 use Rattle.ct_preproc.specs.Reading as steps
 use Rattle.ct_preproc.proofs.Choices.{on_next}

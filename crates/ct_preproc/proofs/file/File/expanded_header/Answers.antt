@@ -1,11 +1,9 @@
-use Rattle.std.proofs.Common.{rules, arith, ◌≡◌, Option, Some, None, sym, ap}
-use Rattle.std.specs.Prelude.{Result, Ok, Err}
-use Rattle.ct_base.specs.declared.lexical.Token.{Token}
-use Rattle.ct_directive.specs.declared.faults.PreFault.{PreFault}
+use Rattle.std.proofs.Common.{rules, ◌≡◌, Some, None, sym, ap}
+use Rattle.std.specs.Prelude.{Ok, Err}
 use Rattle.ct_directive.specs.declared.faults.PreKind.TheVariants as pre
 use Rattle.ct_directive.specs.Forms.{quoted_header}
 use Rattle.ct_preproc.specs.Reading as spec
-use Rattle.ct_preproc.proofs.Choices.{on_next, on_same}
+use Rattle.ct_preproc.proofs.Choices.{on_next}
 use Rattle.ct_preproc.proofs.Replacing.{on_fault}
 use Rattle.ct_preproc.proofs.Stopping.{on_passed}
 use Rattle.ct_preproc.proofs.file.File.expanded_header.Goals as goal

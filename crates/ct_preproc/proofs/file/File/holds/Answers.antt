@@ -1,5 +1,4 @@
-use Rattle.std.proofs.Common.{rules, arith, ◌≡◌}
-use Rattle.ct_base.specs.declared.lexical.Token.{Token}
+use Rattle.std.proofs.Common.{rules, ◌≡◌}
 use Rattle.ct_directive.specs.Forms as forms
 use Rattle.ct_preproc.specs.Reading as spec
 use Rattle.ct_preproc.proofs.Choices.{on_next, on_same}

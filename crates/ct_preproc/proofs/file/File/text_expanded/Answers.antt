@@ -1,5 +1,5 @@
 use Rattle.std.proofs.Common.{rules, arith, ◌≡◌, ◌++◌}
-use Rattle.std.specs.Prelude.{Result, Ok, Err}
+use Rattle.std.specs.Prelude.{Ok}
 use Rattle.std.proofs.lemmas.Grind.{common_steps}
 use Rattle.ct_preproc.specs.Reading as spec
 use Rattle.ct_preproc.proofs.Stopping.{on_passed}
