@@ -11,7 +11,7 @@ folder=$home/crates/ct_trees
 program=$folder/out/ct_trees
 . "$home/bench/fastest.sh"
 
-# A unit of so many functions, each of 100 tokens.
+# A unit of so many functions, each of 98 tokens.
 unit() {
     printf '== %s functions\nshow text\n' "$1"
     awk -v n="$1" 'BEGIN {
@@ -29,10 +29,10 @@ unit() {
 
 status=0
 last=
-for functions in 100 400 1600; do
+for functions in 102 408 1632; do
     unit "$functions" >"$work/unit"
     seconds=$(fastest "$program" "$work/unit")
-    tokens=$((functions * 100))
+    tokens=$((functions * 98))
     if [ -z "$last" ]; then
         echo "$tokens tokens: $seconds s"
     else
