@@ -11,9 +11,9 @@ use Rattle.ct_syntax.specs.Scopes.{Scope}
 use Rattle.ct_syntax.specs.Grammar.{infix_level, level}
 use Rattle.ct_syntax.specs.Trees as t
 use Rattle.ct_parts.specs.Algebra.{Tree, trees_built}
-use Rattle.ct_parser.specs.Frames.{Frame, InCall, InPrefix, InUnary, InSizeof, InCast, InInfix, InNo, InAssign, InComma, InEnumerator, InArray, DeclInit, InItem, InPlace, InAssert, InCase}
-use Rattle.ct_parser.specs.Frames.{Mode, Want, Have, Stack, State, mark_pull, pull, needs, stack_needs, holds}
-use Rattle.ct_parser.specs.Steps.{plug, reduced, act, at, on_comma, then_run, run}
+use Rattle.ct_open.specs.Frames.{Frame, InCall, InPrefix, InUnary, InSizeof, InCast, InInfix, InNo, InAssign, InComma, InEnumerator, InArray, DeclInit, InItem, InPlace, InAssert, InCase}
+use Rattle.ct_open.specs.Frames.{Mode, Want, Have, Stack, State, mark_pull, pull, needs, stack_needs, holds}
+use Rattle.ct_open.specs.Steps.{plug, reduced, act, at, on_comma, then_run, run}
 
 pub infix_range : (o : InfixOp) → (4 ≤ infix_level o) × (infix_level o ≤ 13)
 infix_range i.LogicalOr = (omega arith, omega arith)

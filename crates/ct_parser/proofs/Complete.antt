@@ -12,9 +12,9 @@ use Rattle.ct_syntax.specs.Grammar.{infix_level, level, fits_form, has_members, 
 use Rattle.ct_syntax.specs.Spelling.{spell, spell_list, spell_more, spell_optional, spell_comma, spell_form, spell_specs, spell_members, spell_declarators, spell_more_declarators, spell_enumerators, spell_more_enumerators, spell_value, spell_declarator, spell_parameters, spell_more_parameters}
 use Rattle.ct_syntax.specs.Trees as t
 use Rattle.ct_parts.specs.Algebra.{Tree, trees_built, expressions_then, specs_then, members_then, enumerators_then, declarators_then, parameters_then}
-use Rattle.ct_parser.specs.Frames.{Kind, Ordinary, OfParameter, OfType, is_free, AStruct, AnEnum, InParen, InCall, InIndex, InPrefix, InUnary, InSizeof, InCast, InInfix, InYes, InNo, InAssign, InComma, CastSpecs, SizeofSpecs, CastDeclarator, SizeofDeclarator, InMembers, InMember, InEnumerators, InEnumerator, InGroup, InPointer, InArray, InParameters, InParameter}
-use Rattle.ct_parser.specs.Frames.{Mode, Want, Have, First, Specs, NextMember, FirstEnumerator, NextEnumerator, Enumerated, WantDeclarator, HaveDeclarator, Sizing, Listing, Stack, State, stack_needs}
-use Rattle.ct_parser.specs.Steps.{then_run, run, named, act}
+use Rattle.ct_open.specs.Frames.{Kind, Ordinary, OfParameter, OfType, is_free, AStruct, AnEnum, InParen, InCall, InIndex, InPrefix, InUnary, InSizeof, InCast, InInfix, InYes, InNo, InAssign, InComma, CastSpecs, SizeofSpecs, CastDeclarator, SizeofDeclarator, InMembers, InMember, InEnumerators, InEnumerator, InGroup, InPointer, InArray, InParameters, InParameter}
+use Rattle.ct_open.specs.Frames.{Mode, Want, Have, First, Specs, NextMember, FirstEnumerator, NextEnumerator, Enumerated, WantDeclarator, HaveDeclarator, Sizing, Listing, Stack, State, stack_needs}
+use Rattle.ct_open.specs.Steps.{then_run, run, named, act}
 use Rattle.ct_parser.proofs.Basics.{infix_range, level_range, next_pull, unary_reach, loose, low, bare, below, R, ended, acts, comma_acts}
 use Rattle.ct_parser.proofs.Lists.{expressions-last, specs-assoc, specs-none, members-last, members-none, enumerators-last, declarators-last, parameters-last}
 use Rattle.ct_parser.proofs.TypeParts.{typedef_alone}

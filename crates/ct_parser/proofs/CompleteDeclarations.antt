@@ -12,8 +12,8 @@ use Rattle.ct_syntax.specs.Grammar.{level, has_items, AreSpecs, IsDeclarator, Is
 use Rattle.ct_syntax.specs.Spelling.{spell, spell_comma, spell_specs, spell_declarator, spell_designator, spell_initialiser, spell_items, spell_more_items, spell_start, spell_init_declarators, spell_more_init_declarators, spell_declaration}
 use Rattle.ct_syntax.specs.Trees as t
 use Rattle.ct_parts.specs.Algebra.{Tree, trees_built, inits_then, designator_of, Aimed, AtNext, AtMember, AtIndex}
-use Rattle.ct_parser.specs.Frames.{Ordinary, InBraces, InItem, InPlace, InAssert, DeclSpecs, DeclDeclarator, DeclInit, InBlock, InSwitch, InFunction, InUnit, InForStart, Mode, Want, Have, Specs, WantDeclarator, HaveDeclarator, WantInit, HaveInit, FirstItem, NextItem, Begin, ForStarting, Opening, ToAssert, Stack, State, mark_pull, stack_needs}
-use Rattle.ct_parser.specs.Steps.{step, init_done, declaration_done, specs_step, statement, begin}
+use Rattle.ct_open.specs.Frames.{Ordinary, InBraces, InItem, InPlace, InAssert, DeclSpecs, DeclDeclarator, DeclInit, InBlock, InSwitch, InFunction, InUnit, InForStart, Mode, Want, Have, Specs, WantDeclarator, HaveDeclarator, WantInit, HaveInit, FirstItem, NextItem, Begin, ForStarting, Opening, ToAssert, Stack, State, mark_pull, stack_needs}
+use Rattle.ct_open.specs.Steps.{step, init_done, declaration_done, specs_step, statement, begin}
 use Rattle.ct_parser.proofs.Basics.{level_range, R, acts}
 use Rattle.ct_parser.proofs.Starts.{is_value_start, value_start, is_plain_start, ends_declarator, meets_end, specs_stop}
 use Rattle.ct_parser.proofs.Complete.{go, reads, reads_specs, reads_declarator}

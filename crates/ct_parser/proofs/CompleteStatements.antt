@@ -10,8 +10,8 @@ use Rattle.ct_syntax.specs.Grammar.{level, is_if, is_open, is_open_other, is_fol
 use Rattle.ct_syntax.specs.Spelling.{spell, spell_specs, spell_declarator, spell_maybe, spell_for_start, spell_declaration, spell_statement, spell_more_branches, spell_other, spell_body, spell_item, spell_unit}
 use Rattle.ct_syntax.specs.Trees as t
 use Rattle.ct_parts.specs.Algebra.{Tree, trees_built, branches_then, body_then}
-use Rattle.ct_parser.specs.Frames.{Ordinary, Frame, DeclSpecs, DeclDeclarator, InBlock, InSwitch, InFunction, InUnit, InCase, InRun, InReturn, InTest, InBranch, InElse, InLoopTest, InWhile, InDo, InDoTest, InSwitchTest, InForStart, InForTest, InForAfter, InFor, Want, Begin, Done, AfterElse, Returning, ForStarting, ForTesting, ForAftering, Stack, State}
-use Rattle.ct_parser.specs.Steps.{begin, statement, block_part, begin_part, specs_step, ended, on_else, is_else, done, next_in}
+use Rattle.ct_open.specs.Frames.{Ordinary, Frame, DeclSpecs, DeclDeclarator, InBlock, InSwitch, InFunction, InUnit, InCase, InRun, InReturn, InTest, InBranch, InElse, InLoopTest, InWhile, InDo, InDoTest, InSwitchTest, InForStart, InForTest, InForAfter, InFor, Want, Begin, Done, AfterElse, Returning, ForStarting, ForTesting, ForAftering, Stack, State}
+use Rattle.ct_open.specs.Steps.{begin, statement, block_part, begin_part, specs_step, ended, on_else, is_else, done, next_in}
 use Rattle.ct_parser.proofs.Basics.{level_range, R, acts}
 use Rattle.ct_parser.proofs.Starts.{is_value_start, value_start, meets_end}
 use Rattle.ct_parser.proofs.Complete.{go, reads, reads_specs, reads_declarator}

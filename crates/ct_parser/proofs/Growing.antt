@@ -5,8 +5,8 @@ use Rattle.ct_syntax.specs.Words.{Word}
 use Rattle.ct_syntax.specs.Scopes.{Scope}
 use Rattle.ct_syntax.specs.Trees as t
 use Rattle.ct_parts.specs.Algebra.{Sort, expr, exprs, specs, members, enumerators, declarators, decl, parameters, init, inits, init_declarators, declaration, for_start, stmt, branches, body, items, Aimed, AtNext, AtMember, AtIndex, Tree, trees_built}
-use Rattle.ct_parser.specs.Frames.{InUnit, Begin}
-use Rattle.ct_parser.specs.Steps.{run}
+use Rattle.ct_open.specs.Frames.{InUnit, Begin}
+use Rattle.ct_open.specs.Steps.{run}
 use Rattle.ct_parser.proofs.Map.{map_aimed, map_step, Hom}
 use Rattle.ct_parser.proofs.MapStatements.{run_map}
 

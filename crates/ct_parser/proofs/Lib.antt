@@ -17,10 +17,10 @@ pub mod Map
 pub mod MapStatements
 pub mod PartsMap
 pub mod Tells
-pub mod LeftOut
 mod ReachLaws
 mod ReachTells
 mod ItemRead
 mod Growing
 mod OneUnit
 pub mod Loop
+pub mod OneMore

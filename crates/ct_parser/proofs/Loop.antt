@@ -2,6 +2,7 @@
 use Rattle.std.proofs.Common.{◌≡◌, ℕ, zero, suc, ◌+◌, ◌<◌, List, [], ◌∷◌, ◌++◌, length, take, drop, slice_get, Option, Some, None, refl, sym, ap, subst, ◌∙◌, arith, length-append}
 use Rattle.std.specs.Prelude.{is_none}
 use Rattle.std.proofs.lemmas.List.{take-append-drop}
+use Rattle.std.proofs.lemmas.Option.{none-some}
 use Rattle.std.proofs.Math.Seq.{drop-length}
 use Rattle.ct_base.specs.declared.lexical.Token.{Token}
 use Rattle.ct_base.specs.declared.limits.LimitKind.{LimitKind}
@@ -15,7 +16,7 @@ use Rattle.ct_syntax.specs.Trees as t
 use Rattle.ct_parts.specs.Algebra.{items}
 use Rattle.ct_parts.specs.Parts.{Part, kept}
 use Rattle.ct_parts.specs.Reach.{passed_by, depth_unit}
-use Rattle.ct_parser.specs.Parses.{Refused, Parsed, Reached, Progress}
+use Rattle.ct_parser.specs.Parses.{Refused, Parsed, Reached, Progress, then_built, items_after, deep_here, deep_after}
 use Rattle.ct_parser.proofs.Leads.{unit_spelled, after_unit-last, IsUnit-last}
 use Rattle.ct_parser.proofs.ReachTells.{tells_depth_unit}
 use Rattle.ct_parser.proofs.ItemRead.{ItemSeen, unit-append}
@@ -111,6 +112,19 @@ module _ (tokens : List Token) (at next : ℕ) (scope scope' : Scope) (p : Part 
       more built built' (Some (place, kind)) (Some (place, kind)) h
       (h.reached.0, (r.0, r.1, r.2 ++ seen.item ∷ [], ap (λ z. z ++ seen.item ∷ []) r.3 ∙ longer r.0 r.2 r.1 seen.item, r.4, r.5, r.6))
 
+  -- what is built of an item that passes no limit
+  all_built : p.built.tree ≡ None → passed_by all_room p.built.reach ≡ None → ⊥
+  all_built e k = none-some (seen.item ∷ []) (sym e ∙ tree_is ∙ ap (λ z. kept (is_none z) (Some (seen.item ∷ []))) (ap (passed_by all_room) (sym reach_is) ∙ k))
+
+  then_more : (built : List t.Item) → Progress tokens at scope built None → at < length tokens → (tree : Option (List t.Item)) → p.built.tree ≡ tree → (limit : Option LimitKind) → passed_by all_room p.built.reach ≡ limit → Progress tokens next scope' (then_built built tree) (deep_here at tree limit)
+  then_more built h l (Some more_built) e limit k = next_shallow built more_built h e
+  then_more built h l None e (Some kind) k = next_deep built built kind h l k
+  then_more built h l None e None k = absurd (all_built e k)
+
+  pub next_item : (built : List t.Item) (deep : Option (ℕ × LimitKind)) → Progress tokens at scope built deep → at < length tokens → Progress tokens next scope' (items_after deep built p) (deep_after deep at p)
+  next_item built None h l = then_more built h l p.built.tree refl (passed_by all_room p.built.reach) refl
+  next_item built (Some (place, kind)) h l = next_any built built place kind h
+
 -- ---- the ends
 
 rest_suc : (tokens : List Token) (at : ℕ) (token : Token) → slice_get tokens at ≡ Some token → drop at tokens ≡ token ∷ drop (suc at) tokens
@@ -122,7 +136,7 @@ rest_suc (x ∷ xs) zero token e = ap (λ z. z ∷ xs) (inside e)
     inside h = cc
 rest_suc (x ∷ xs) (suc n) token e = rest_suc xs n token e
 
-rest_at : (tokens : List Token) (at : ℕ) (token : Token) → slice_get tokens at ≡ Some token → drop at tokens ≡ token ∷ drop (at + 1) tokens
+pub rest_at : (tokens : List Token) (at : ℕ) (token : Token) → slice_get tokens at ≡ Some token → drop at tokens ≡ token ∷ drop (at + 1) tokens
 rest_at tokens at token e = rest_suc tokens at token e ∙ ap (λ n. token ∷ drop n tokens) (same at)
   where
     same : (n : ℕ) → suc n ≡ n + 1
@@ -147,7 +161,7 @@ at_no_item tokens at token scope built deep h e none =
       );
     }
 
-drop_all : (tokens : List Token) → drop (length tokens) tokens ≡ []
+pub drop_all : (tokens : List Token) → drop (length tokens) tokens ≡ []
 drop_all tokens = drop-length tokens
 
 whole : (tokens : List Token) (scope : Scope) (built : List t.Item) (deep : Option (ℕ × LimitKind)) → (h : Progress tokens (length tokens) scope built deep) → Spells h.all (words tokens)

@@ -19,11 +19,11 @@ use Rattle.ct_syntax.specs.Words.{Text, Word, Named, Numbered, Quote, Literal, S
 use Rattle.ct_syntax.specs.Scopes.{Scope, with_name, with_maybe}
 use Rattle.ct_syntax.specs.Grammar.{begins_list}
 use Rattle.ct_parts.specs.Algebra.{Sort, expr, exprs, specs, members, enumerators, declarators, decl, parameters, init, inits, init_declarators, declaration, for_start, stmt, branches, body, items, Aimed, AtNext, AtMember, AtIndex, Algebra}
-use Rattle.ct_parser.specs.Frames.{Kind, Ordinary, OfParameter, OfType, is_free, Which, AStruct, AnEnum, Frame, InParen, InCall, InIndex, InPrefix, InUnary, InSizeof, InCast, InInfix, InYes, InNo, InAssign, InComma, CastSpecs, SizeofSpecs, CastDeclarator, SizeofDeclarator, InMembers, InMember, InEnumerators, InEnumerator, InGroup, InPointer, InArray, InParameters, InParameter}
-use Rattle.ct_parser.specs.Frames.{DeclSpecs, DeclDeclarator, DeclInit, InBraces, InItem, InPlace, InAssert, InBlock, InSwitch, InFunction, InUnit, InCase, InRun, InReturn, InTest, InBranch, InElse, InLoopTest, InWhile, InDo, InDoTest, InSwitchTest, InForStart, InForTest, InForAfter, InFor, Aim, ToTest, ToLoop, ToDo, ToSwitch, ToAssert}
-use Rattle.ct_parser.specs.Frames.{Mode, Want, Have, Texts, First, Dotted, Specs, Tagging, Tagged, NextMember, FirstEnumerator, NextEnumerator, Enumerated, WantDeclarator, Qualifying, Opened, HaveDeclarator, Sizing, Listing, NextParameter, Dots}
-use Rattle.ct_parser.specs.Frames.{WantInit, HaveInit, FirstItem, NextItem, Pointed, Placed, Opening, AssertText, AssertClose, AssertEnd, Begin, Done, Ending, AfterElse, Returning, Switching, DefaultColon, OpenFor, ForStarting, ForTesting, ForAftering, Stack, State, mark_pull, stack_needs, holds}
-use Rattle.ct_parser.specs.Steps.{prefix_of, is_star, declaration_done, definition_opens, init_done, reduced_pointers, closed, declarator_done, have_declarator, no_name, want_named, want_declarator, qualify, declaration_specs, specs_done, specs_end, specs_step, open_braces, tagging, with_tag, tagged, close_members, next_member, first_enumerator, close_enumerators, next_enumerator, enumerated, plug, reduced, on_close, on_close_bracket, on_comma, case_done, default_done, on_colon, on_close_brace, on_semicolon, on_assign, on_postfix, act, at, after, begin_type, named, prefixed, begin_mark, begin_key, begin, texts, first, dotted, sizing, listing, opened, next_parameter, dots}
+use Rattle.ct_open.specs.Frames.{Kind, Ordinary, OfParameter, OfType, is_free, Which, AStruct, AnEnum, Frame, InParen, InCall, InIndex, InPrefix, InUnary, InSizeof, InCast, InInfix, InYes, InNo, InAssign, InComma, CastSpecs, SizeofSpecs, CastDeclarator, SizeofDeclarator, InMembers, InMember, InEnumerators, InEnumerator, InGroup, InPointer, InArray, InParameters, InParameter}
+use Rattle.ct_open.specs.Frames.{DeclSpecs, DeclDeclarator, DeclInit, InBraces, InItem, InPlace, InAssert, InBlock, InSwitch, InFunction, InUnit, InCase, InRun, InReturn, InTest, InBranch, InElse, InLoopTest, InWhile, InDo, InDoTest, InSwitchTest, InForStart, InForTest, InForAfter, InFor, Aim, ToTest, ToLoop, ToDo, ToSwitch, ToAssert}
+use Rattle.ct_open.specs.Frames.{Mode, Want, Have, Texts, First, Dotted, Specs, Tagging, Tagged, NextMember, FirstEnumerator, NextEnumerator, Enumerated, WantDeclarator, Qualifying, Opened, HaveDeclarator, Sizing, Listing, NextParameter, Dots}
+use Rattle.ct_open.specs.Frames.{WantInit, HaveInit, FirstItem, NextItem, Pointed, Placed, Opening, AssertText, AssertClose, AssertEnd, Begin, Done, Ending, AfterElse, Returning, Switching, DefaultColon, OpenFor, ForStarting, ForTesting, ForAftering, Stack, State, mark_pull, stack_needs, holds}
+use Rattle.ct_open.specs.Steps.{prefix_of, is_star, declaration_done, definition_opens, init_done, reduced_pointers, closed, declarator_done, have_declarator, no_name, want_named, want_declarator, qualify, declaration_specs, specs_done, specs_end, specs_step, open_braces, tagging, with_tag, tagged, close_members, next_member, first_enumerator, close_enumerators, next_enumerator, enumerated, plug, reduced, on_close, on_close_bracket, on_comma, case_done, default_done, on_colon, on_close_brace, on_semicolon, on_assign, on_postfix, act, at, after, begin_type, named, prefixed, begin_mark, begin_key, begin, texts, first, dotted, sizing, listing, opened, next_parameter, dots}
 
 module _ {A B : Sort → Type 0} (h : (s : Sort) → A s → B s) where
   abbrev pub map_aimed : Aimed A → Aimed B

@@ -10,10 +10,10 @@ use Rattle.ct_syntax.specs.Words.{Text, Word, Named, Literal, Sign, Key}
 use Rattle.ct_syntax.specs.Scopes.{Scope}
 use Rattle.ct_syntax.specs.Grammar.{begins_specs}
 use Rattle.ct_parts.specs.Algebra.{Sort, expr, specs, decl, init, stmt, branches, items, Aimed, AtNext, Algebra}
-use Rattle.ct_parser.specs.Frames.{DeclSpecs, InBraces, InItem, InBlock, InSwitch, InFunction, InUnit, InRun, InReturn, InBranch, InElse, InWhile, InDo, InForStart, InForTest, InForAfter, InFor, Aim, ToTest, ToLoop, ToDo, ToSwitch, ToAssert}
-use Rattle.ct_parser.specs.Frames.{Mode, Want, Have, Texts, First, Dotted, Specs, Tagging, Tagged, NextMember, FirstEnumerator, NextEnumerator, Enumerated, WantDeclarator, Qualifying, Opened, HaveDeclarator, Sizing, Listing, NextParameter, Dots}
-use Rattle.ct_parser.specs.Frames.{WantInit, HaveInit, FirstItem, NextItem, Pointed, Placed, Opening, AssertText, AssertClose, AssertEnd, Begin, Done, Ending, AfterElse, Returning, Switching, DefaultColon, OpenFor, ForStarting, ForTesting, ForAftering, Stack, State}
-use Rattle.ct_parser.specs.Steps.{qualifier_of, is_label, is_else, declaration_done, specs_step, begin, want_init, have_init, item, close_items, item_or_end, pointed, placed, assert_text, assert_close, assert_end, aim_frame, opening, statement_mark, statement_key, statement, close_body, label, block_part, file_part, begin_part, ended, on_else, do_test, next_in, done, ending, after_else, returning, switching, default_colon, open_for, no_start, for_starting, no_test, for_testing, no_after, for_aftering, step, then_run, run}
+use Rattle.ct_open.specs.Frames.{DeclSpecs, InBraces, InItem, InBlock, InSwitch, InFunction, InUnit, InRun, InReturn, InBranch, InElse, InWhile, InDo, InForStart, InForTest, InForAfter, InFor, Aim, ToTest, ToLoop, ToDo, ToSwitch, ToAssert}
+use Rattle.ct_open.specs.Frames.{Mode, Want, Have, Texts, First, Dotted, Specs, Tagging, Tagged, NextMember, FirstEnumerator, NextEnumerator, Enumerated, WantDeclarator, Qualifying, Opened, HaveDeclarator, Sizing, Listing, NextParameter, Dots}
+use Rattle.ct_open.specs.Frames.{WantInit, HaveInit, FirstItem, NextItem, Pointed, Placed, Opening, AssertText, AssertClose, AssertEnd, Begin, Done, Ending, AfterElse, Returning, Switching, DefaultColon, OpenFor, ForStarting, ForTesting, ForAftering, Stack, State}
+use Rattle.ct_open.specs.Steps.{qualifier_of, is_label, is_else, declaration_done, specs_step, begin, want_init, have_init, item, close_items, item_or_end, pointed, placed, assert_text, assert_close, assert_end, aim_frame, opening, statement_mark, statement_key, statement, close_body, label, block_part, file_part, begin_part, ended, on_else, do_test, next_in, done, ending, after_else, returning, switching, default_colon, open_for, no_start, for_starting, no_test, for_testing, no_after, for_aftering, step, then_run, run}
 use Rattle.ct_parser.proofs.Map.{map_aimed, map_frame, map_stack, map_aim, map_mode, map_step, Hom}
 use Rattle.ct_parser.proofs.Map as one
 

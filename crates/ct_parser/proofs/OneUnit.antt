@@ -7,7 +7,7 @@ use Rattle.ct_syntax.specs.Spelling.{spell_item, spell_unit}
 use Rattle.ct_syntax.specs.Units.{NoItem}
 use Rattle.ct_syntax.specs.Trees as t
 use Rattle.ct_parts.specs.Algebra.{Tree}
-use Rattle.ct_parser.specs.Frames.{InUnit, Begin, State}
+use Rattle.ct_open.specs.Frames.{InUnit, Begin, State}
 use Rattle.ct_parser.proofs.Basics.{R}
 use Rattle.ct_parser.proofs.CompleteStatements.{reads_item}
 use Rattle.ct_parser.proofs.Append.{item-append}

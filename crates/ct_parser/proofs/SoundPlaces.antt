@@ -9,8 +9,8 @@ use Rattle.ct_syntax.specs.Grammar.{IsDeclarator, IsInitialiser, IsDeclaration, 
 use Rattle.ct_syntax.specs.Spelling.{spell_specs, spell_declarator, spell_initialiser, spell_start, spell_declaration}
 use Rattle.ct_syntax.specs.Trees as t
 use Rattle.ct_parts.specs.Algebra.{Tree, trees_built, body_then, designator_of}
-use Rattle.ct_parser.specs.Frames.{Ordinary, DeclDeclarator, DeclInit, InItem, InBlock, InSwitch, InFunction, InUnit, InForStart, WantDeclarator, Stack, State}
-use Rattle.ct_parser.specs.Steps.{declaration_done, definition_opens, init_done}
+use Rattle.ct_open.specs.Frames.{Ordinary, DeclDeclarator, DeclInit, InItem, InBlock, InSwitch, InFunction, InUnit, InForStart, WantDeclarator, Stack, State}
+use Rattle.ct_open.specs.Steps.{declaration_done, definition_opens, init_done}
 use Rattle.ct_parser.proofs.CompleteStatements.{after_body}
 use Rattle.ct_parser.proofs.Leads.{items_lead, lead_items-last, AreItems-last, has_items-last, lead_inits, inits_lead, lead_inits-last, after_inits-last, AreInits-last, body_spelled, after_body-then, IsBody-then, unit_spelled, after_unit-last, IsUnit-last}
 use Rattle.ct_parser.proofs.Unwinding.{unwind, mode_words, IsStack, IsAt}

@@ -13,10 +13,10 @@ use Rattle.ct_syntax.specs.Grammar.{begins_specs, is_if, is_open, has_items, IsE
 use Rattle.ct_syntax.specs.Spelling.{spell_initialiser, spell_items, spell_statement, spell_branches}
 use Rattle.ct_syntax.specs.Trees as t
 use Rattle.ct_parts.specs.Algebra.{Tree, trees_built, branches_then, body_then, designator_of, Aimed, AtNext, AtMember, AtIndex}
-use Rattle.ct_parser.specs.Frames.{DeclSpecs, InBraces, InItem, InBlock, InSwitch, InFunction, InUnit, InRun, InReturn, InBranch, InElse, InWhile, InDo, InForStart, InForTest, InForAfter, InFor, Aim, ToTest, ToLoop, ToDo, ToSwitch, ToAssert}
-use Rattle.ct_parser.specs.Frames.{Mode, Want, Have, Texts, First, Dotted, Specs, Tagging, Tagged, NextMember, FirstEnumerator, NextEnumerator, Enumerated, WantDeclarator, Qualifying, Opened, HaveDeclarator, Sizing, Listing, NextParameter, Dots, Stack, State}
-use Rattle.ct_parser.specs.Frames.{WantInit, HaveInit, FirstItem, NextItem, Pointed, Placed, Opening, AssertText, AssertClose, AssertEnd, Begin, Done, Ending, AfterElse, Returning, Switching, DefaultColon, OpenFor, ForStarting, ForTesting, ForAftering}
-use Rattle.ct_parser.specs.Steps.{is_label, is_else, begin, specs_step, want_init, have_init, item, close_items, item_or_end, pointed, placed, assert_text, assert_close, assert_end, aim_frame, opening, statement_mark, statement_key, statement, close_body, label, block_part, file_part, begin_part, ended, on_else, do_test, next_in, done, ending, after_else, returning, switching, default_done, default_colon, open_for, no_start, for_starting, no_test, for_testing, no_after, for_aftering, step, then_run, run}
+use Rattle.ct_open.specs.Frames.{DeclSpecs, InBraces, InItem, InBlock, InSwitch, InFunction, InUnit, InRun, InReturn, InBranch, InElse, InWhile, InDo, InForStart, InForTest, InForAfter, InFor, Aim, ToTest, ToLoop, ToDo, ToSwitch, ToAssert}
+use Rattle.ct_open.specs.Frames.{Mode, Want, Have, Texts, First, Dotted, Specs, Tagging, Tagged, NextMember, FirstEnumerator, NextEnumerator, Enumerated, WantDeclarator, Qualifying, Opened, HaveDeclarator, Sizing, Listing, NextParameter, Dots, Stack, State}
+use Rattle.ct_open.specs.Frames.{WantInit, HaveInit, FirstItem, NextItem, Pointed, Placed, Opening, AssertText, AssertClose, AssertEnd, Begin, Done, Ending, AfterElse, Returning, Switching, DefaultColon, OpenFor, ForStarting, ForTesting, ForAftering}
+use Rattle.ct_open.specs.Steps.{is_label, is_else, begin, specs_step, want_init, have_init, item, close_items, item_or_end, pointed, placed, assert_text, assert_close, assert_end, aim_frame, opening, statement_mark, statement_key, statement, close_body, label, block_part, file_part, begin_part, ended, on_else, do_test, next_in, done, ending, after_else, returning, switching, default_done, default_colon, open_for, no_start, for_starting, no_test, for_testing, no_after, for_aftering, step, then_run, run}
 use Rattle.ct_parser.proofs.Leads.{lead_items, items_comma, branches_lead, branches_else, AreLed-last, has_branches-last, led_else, led_last, body_spelled, unit_spelled, after_unit-last, IsUnit-last}
 use Rattle.ct_parser.proofs.Unwinding.{frame_words, aim_words, ending_words, unwind, mode_words, NoItems, HasItems, top_is_else, IsPlaced, IsStack, IsAt}
 use Rattle.ct_parser.proofs.SoundPlaces.{Goes, Goes-from, body_more, body_scope, declaration_goes, init_goes}

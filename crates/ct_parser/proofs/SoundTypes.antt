@@ -18,10 +18,10 @@ use Rattle.ct_syntax.specs.Grammar.{is_direct, begins_list, has_enumerators, has
 use Rattle.ct_syntax.specs.Spelling.{spell_qualifiers, spell_tag, spell_specs, spell_members, spell_declarator, spell_parameters}
 use Rattle.ct_syntax.specs.Trees as t
 use Rattle.ct_parts.specs.Algebra.{Tree, trees_built, has_type_part, specs_then, enumerators_then, declarators_then, parameters_then}
-use Rattle.ct_parser.specs.Frames.{Kind, Ordinary, OfParameter, OfType, is_free, Which, AStruct, AnEnum, CastSpecs, SizeofSpecs, CastDeclarator, SizeofDeclarator, InMembers, InMember, InEnumerators, InGroup, InPointer, InParameters, InParameter}
-use Rattle.ct_parser.specs.Frames.{Specs, Qualifying, HaveDeclarator, Stack}
-use Rattle.ct_parser.specs.Frames.{DeclSpecs, DeclDeclarator}
-use Rattle.ct_parser.specs.Steps.{declaration_specs, is_star, qualifier_of, reduced_pointers, declarator_done, have_declarator, no_name, want_named, want_declarator, qualify, specs_done, specs_end, specs_step, open_braces, tagging, with_tag, tagged, close_members, next_member, first_enumerator, close_enumerators, next_enumerator, enumerated, listing, opened, next_parameter, dots}
+use Rattle.ct_open.specs.Frames.{Kind, Ordinary, OfParameter, OfType, is_free, Which, AStruct, AnEnum, CastSpecs, SizeofSpecs, CastDeclarator, SizeofDeclarator, InMembers, InMember, InEnumerators, InGroup, InPointer, InParameters, InParameter}
+use Rattle.ct_open.specs.Frames.{Specs, Qualifying, HaveDeclarator, Stack}
+use Rattle.ct_open.specs.Frames.{DeclSpecs, DeclDeclarator}
+use Rattle.ct_open.specs.Steps.{declaration_specs, is_star, qualifier_of, reduced_pointers, declarator_done, have_declarator, no_name, want_named, want_declarator, qualify, specs_done, specs_end, specs_step, open_braces, tagging, with_tag, tagged, close_members, next_member, first_enumerator, close_enumerators, next_enumerator, enumerated, listing, opened, next_parameter, dots}
 use Rattle.ct_parser.proofs.Starts.{may_name, first_alone, has_more}
 use Rattle.ct_parser.proofs.Unwinding.{specs_spelled, members_spelled, declarators_lead, lead_declarators-last, enumerators_lead, lead_enumerators-last, enumerators_comma, parameters_lead, lead_parameters-last, parameters_comma}
 use Rattle.ct_parser.proofs.Unwinding.{after_specs-then, AreSpecs-then, after_members-last, AreMembers-last, has_members-last, has_declarators-last, AreDeclarators-last, after_enumerators-last, AreEnumerators-last, has_enumerators-last, after_parameters-last, AreParameters-last}

@@ -15,10 +15,10 @@ use Rattle.ct_syntax.specs.Grammar.{infix_level, level, IsExpression}
 use Rattle.ct_syntax.specs.Spelling.{spell, spell_texts, spell_tag, spell_specs, spell_declarator}
 use Rattle.ct_syntax.specs.Trees as t
 use Rattle.ct_parts.specs.Algebra.{Tree, trees_built, enumerators_then}
-use Rattle.ct_parser.specs.Frames.{Kind, Frame, InParen, InCall, InIndex, InPrefix, InUnary, InSizeof, InCast, InInfix, InYes, InNo, InAssign, InComma, CastSpecs, SizeofSpecs, InEnumerator, InArray}
-use Rattle.ct_parser.specs.Frames.{Want, Have, First, Dotted, Sizing, Stack, State, mark_pull, needs, stack_needs, holds}
-use Rattle.ct_parser.specs.Frames.{DeclInit, InItem, InPlace, InAssert, InSwitch, InCase, InRun, InReturn, InTest, InLoopTest, InDoTest, InSwitchTest, InForStart, InForTest, InForAfter}
-use Rattle.ct_parser.specs.Steps.{case_done, on_semicolon, plug, reduced, on_close, on_close_bracket, on_comma, on_colon, on_close_brace, on_assign, on_postfix, act, after, begin_type, named, begin_mark, begin_key, begin, texts, first, dotted, sizing, specs_step}
+use Rattle.ct_open.specs.Frames.{Kind, Frame, InParen, InCall, InIndex, InPrefix, InUnary, InSizeof, InCast, InInfix, InYes, InNo, InAssign, InComma, CastSpecs, SizeofSpecs, InEnumerator, InArray}
+use Rattle.ct_open.specs.Frames.{Want, Have, First, Dotted, Sizing, Stack, State, mark_pull, needs, stack_needs, holds}
+use Rattle.ct_open.specs.Frames.{DeclInit, InItem, InPlace, InAssert, InSwitch, InCase, InRun, InReturn, InTest, InLoopTest, InDoTest, InSwitchTest, InForStart, InForTest, InForAfter}
+use Rattle.ct_open.specs.Steps.{case_done, on_semicolon, plug, reduced, on_close, on_close_bracket, on_comma, on_colon, on_close_brace, on_assign, on_postfix, act, after, begin_type, named, begin_mark, begin_key, begin, texts, first, dotted, sizing, specs_step}
 use Rattle.ct_parser.proofs.Basics.{infix_range, stack_holds}
 use Rattle.ct_parser.proofs.Leads.{body_spelled}
 use Rattle.ct_parser.proofs.Unwinding.{list_lead, lead_expressions-last, AreArguments-last, specs_spelled, enumerators_lead, lead_enumerators-last, after_enumerators-last, AreEnumerators-last, has_enumerators-last}

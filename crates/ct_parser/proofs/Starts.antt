@@ -20,9 +20,9 @@ use Rattle.ct_syntax.specs.Spelling.{spell, spell_texts, spell_qualifiers, spell
 use Rattle.ct_syntax.specs.TypeWords.{form_type}
 use Rattle.ct_syntax.specs.Trees as t
 use Rattle.ct_parts.specs.Algebra.{Tree, trees_built, specs_then, has_type_part, parameters_then}
-use Rattle.ct_parser.specs.Frames.{Kind, Ordinary, OfParameter, OfType, is_free, Which, InParen, InCall, InSizeof, CastSpecs, SizeofSpecs, InMembers, InEnumerators, InGroup, InPointer, InArray, InParameters, InParameter, InUnary, InPrefix, InInfix}
-use Rattle.ct_parser.specs.Frames.{Want, Have, Texts, First, Specs, Tagged, NextMember, FirstEnumerator, WantDeclarator, Qualifying, Opened, HaveDeclarator, Sizing, Listing, NextParameter, Stack, State, stack_needs}
-use Rattle.ct_parser.specs.Steps.{on_postfix, specs_step, specs_done, specs_end, want_declarator, then_run, run, begin_type, named, with_tag, listing}
+use Rattle.ct_open.specs.Frames.{Kind, Ordinary, OfParameter, OfType, is_free, Which, InParen, InCall, InSizeof, CastSpecs, SizeofSpecs, InMembers, InEnumerators, InGroup, InPointer, InArray, InParameters, InParameter, InUnary, InPrefix, InInfix}
+use Rattle.ct_open.specs.Frames.{Want, Have, Texts, First, Specs, Tagged, NextMember, FirstEnumerator, WantDeclarator, Qualifying, Opened, HaveDeclarator, Sizing, Listing, NextParameter, Stack, State, stack_needs}
+use Rattle.ct_open.specs.Steps.{on_postfix, specs_step, specs_done, specs_end, want_declarator, then_run, run, begin_type, named, with_tag, listing}
 use Rattle.ct_parser.proofs.Basics.{next_pull, R}
 use Rattle.ct_parser.proofs.TypeParts.{form_has}
 

@@ -7,8 +7,8 @@ use Rattle.ct_parts.specs.Reach.{depth_unit}
 use Rattle.ct_syntax.specs.Units.{Spells}
 use Rattle.ct_syntax.specs.Trees as t
 use Rattle.ct_parts.specs.Algebra.{items, Tree, trees_built}
-use Rattle.ct_parser.specs.Frames.{InUnit, Begin, State}
-use Rattle.ct_parser.specs.Steps.{run}
+use Rattle.ct_open.specs.Frames.{InUnit, Begin, State}
+use Rattle.ct_open.specs.Steps.{run}
 use Rattle.ct_parser.specs.Reading.{unit_read, unit_of}
 use Rattle.ct_parts.specs.Parts.{fit, Part, part, parts_built}
 use Rattle.ct_parser.proofs.Map.{map_step}

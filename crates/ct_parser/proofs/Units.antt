@@ -8,8 +8,8 @@ use Rattle.ct_syntax.specs.Spelling.{spell_item}
 use Rattle.ct_syntax.specs.Units.{Spells, NoItem}
 use Rattle.ct_syntax.specs.Trees as t
 use Rattle.ct_parts.specs.Algebra.{Tree, trees_built}
-use Rattle.ct_parser.specs.Frames.{InUnit, Mode, Begin, Stack, State}
-use Rattle.ct_parser.specs.Steps.{step, then_run, run}
+use Rattle.ct_open.specs.Frames.{InUnit, Mode, Begin, Stack, State}
+use Rattle.ct_open.specs.Steps.{step, then_run, run}
 use Rattle.ct_parser.specs.Reading.{unit_read, unit_of, is_between, then_item, read_item}
 use Rattle.ct_parser.proofs.Basics.{R}
 use Rattle.ct_parser.proofs.CompleteStatements.{reads_item, reads_unit}

@@ -12,11 +12,11 @@ use Rattle.ct_syntax.specs.Grammar.{infix_level, level, is_direct, begins_list, 
 use Rattle.ct_syntax.specs.Spelling.{spell, spell_list, spell_more, spell_texts, spell_qualifiers, spell_tag, spell_comma, spell_specs, spell_members, spell_declarators, spell_more_declarators, spell_enumerators, spell_more_enumerators, spell_value, spell_declarator, spell_parameters, spell_more_parameters, spell_designator, spell_initialiser, spell_maybe, spell_for_start, spell_statement, spell_branches, spell_body, spell_unit}
 use Rattle.ct_syntax.specs.Trees as t
 use Rattle.ct_parts.specs.Algebra.{Tree, trees_built, expressions_then, specs_then, members_then, enumerators_then, declarators_then, parameters_then, designator_of, Aimed, AtNext, AtMember, AtIndex}
-use Rattle.ct_parser.specs.Frames.{Kind, Ordinary, OfParameter, OfType, is_free, Which, AStruct, AnEnum, Frame, InParen, InCall, InIndex, InPrefix, InUnary, InSizeof, InCast, InInfix, InYes, InNo, InAssign, InComma, CastSpecs, SizeofSpecs, CastDeclarator, SizeofDeclarator, InMembers, InMember, InEnumerators, InEnumerator, InGroup, InPointer, InArray, InParameters, InParameter}
-use Rattle.ct_parser.specs.Frames.{Mode, Want, Have, Texts, First, Dotted, Specs, Tagging, Tagged, NextMember, FirstEnumerator, NextEnumerator, Enumerated, WantDeclarator, Qualifying, Opened, HaveDeclarator, Sizing, Listing, NextParameter, Dots, Stack, stack_needs}
-use Rattle.ct_parser.specs.Frames.{DeclSpecs, DeclDeclarator, DeclInit, InBraces, InItem, InPlace, InAssert, InBlock, InSwitch, InFunction, InUnit, InCase, InRun, InReturn, InTest, InBranch, InElse, InLoopTest, InWhile, InDo, InDoTest, InSwitchTest, InForStart, InForTest, InForAfter, InFor, Aim, ToTest, ToLoop, ToDo, ToSwitch, ToAssert}
-use Rattle.ct_parser.specs.Frames.{WantInit, HaveInit, FirstItem, NextItem, Pointed, Placed, Opening, AssertText, AssertClose, AssertEnd, Begin, Done, Ending, AfterElse, Returning, Switching, DefaultColon, OpenFor, ForStarting, ForTesting, ForAftering}
-use Rattle.ct_parser.specs.Steps.{aim_frame}
+use Rattle.ct_open.specs.Frames.{Kind, Ordinary, OfParameter, OfType, is_free, Which, AStruct, AnEnum, Frame, InParen, InCall, InIndex, InPrefix, InUnary, InSizeof, InCast, InInfix, InYes, InNo, InAssign, InComma, CastSpecs, SizeofSpecs, CastDeclarator, SizeofDeclarator, InMembers, InMember, InEnumerators, InEnumerator, InGroup, InPointer, InArray, InParameters, InParameter}
+use Rattle.ct_open.specs.Frames.{Mode, Want, Have, Texts, First, Dotted, Specs, Tagging, Tagged, NextMember, FirstEnumerator, NextEnumerator, Enumerated, WantDeclarator, Qualifying, Opened, HaveDeclarator, Sizing, Listing, NextParameter, Dots, Stack, stack_needs}
+use Rattle.ct_open.specs.Frames.{DeclSpecs, DeclDeclarator, DeclInit, InBraces, InItem, InPlace, InAssert, InBlock, InSwitch, InFunction, InUnit, InCase, InRun, InReturn, InTest, InBranch, InElse, InLoopTest, InWhile, InDo, InDoTest, InSwitchTest, InForStart, InForTest, InForAfter, InFor, Aim, ToTest, ToLoop, ToDo, ToSwitch, ToAssert}
+use Rattle.ct_open.specs.Frames.{WantInit, HaveInit, FirstItem, NextItem, Pointed, Placed, Opening, AssertText, AssertClose, AssertEnd, Begin, Done, Ending, AfterElse, Returning, Switching, DefaultColon, OpenFor, ForStarting, ForTesting, ForAftering}
+use Rattle.ct_open.specs.Steps.{aim_frame}
 use Rattle.ct_parser.proofs.Starts.{may_name}
 use Rattle.ct_parser.proofs.CompleteStatements.{after_body}
 use Rattle.ct_parser.proofs.Leads.{lead_items, lead_inits, lead_branches, AreLed}

@@ -1,5 +1,5 @@
 -- What reading tokens as a unit comes to.
-use Rattle.std.specs.Prelude.{◌≡◌, ℕ, ◌<◌, List, ◌∷◌, ◌++◌, length, drop, Option, Some, None}
+use Rattle.std.specs.Prelude.{◌≡◌, ℕ, ◌<◌, List, ◌∷◌, ◌++◌, length, drop, Option, Some, None, option_map}
 use Rattle.ct_base.specs.declared.lexical.Span.{Span}
 use Rattle.ct_base.specs.declared.lexical.Token.{Token}
 use Rattle.ct_base.specs.declared.limits.LimitKind.{LimitKind}
@@ -10,6 +10,9 @@ use Rattle.ct_syntax.specs.Spelling.{spell_unit}
 use Rattle.ct_syntax.specs.Depths.{all_room, passed_item}
 use Rattle.ct_syntax.specs.Units.{Spells, IsShallow, Unspelled, TooDeep}
 use Rattle.ct_syntax.specs.Trees as t
+use Rattle.ct_parts.specs.Algebra.{items}
+use Rattle.ct_parts.specs.Parts.{Part}
+use Rattle.ct_parts.specs.Reach.{passed_by}
 
 -- No tree spells the tokens, and the first declaration that none spells begins with that token; or a tree spells
 -- them, and its first item that passes a limit of depth begins there.
@@ -45,3 +48,24 @@ pub record Progress (tokens : List Token) (place : ℕ) (scope : Scope) (items :
   pub spelled : spell_unit all (words (drop place tokens)) ≡ words tokens
   pub scope_is : scope ≡ after_unit no_names all
   pub reached : Reached tokens all items deep
+
+-- ---- one item more
+
+-- the items with those that are built of one more, which are none where it passes a limit
+abbrev pub then_built : List t.Item → Option (List t.Item) → List t.Item
+then_built before None = before
+then_built before (Some more) = before ++ more
+
+-- Once one has passed a limit no more are kept.
+abbrev pub items_after : Option (ℕ × LimitKind) → List t.Item → Part items → List t.Item
+items_after None before p = then_built before p.built.tree
+items_after (Some deep) before p = before
+
+abbrev pub deep_here : ℕ → Option (List t.Item) → Option LimitKind → Option (ℕ × LimitKind)
+deep_here place None limit = option_map (λ kind. (place, kind)) limit
+deep_here place (Some more) limit = None
+
+-- the first item that passes a limit, with one more that begins at a place
+abbrev pub deep_after : Option (ℕ × LimitKind) → ℕ → Part items → Option (ℕ × LimitKind)
+deep_after None place p = deep_here place p.built.tree (passed_by all_room p.built.reach)
+deep_after (Some deep) place p = Some deep

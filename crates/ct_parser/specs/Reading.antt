@@ -3,8 +3,8 @@ use Rattle.std.specs.Prelude.{Bool, true, false, if◌then◌else◌, List, [], 
 use Rattle.ct_syntax.specs.Words.{Word}
 use Rattle.ct_syntax.specs.Scopes.{Scope, no_names}
 use Rattle.ct_parts.specs.Algebra.{Sort, items, Algebra}
-use Rattle.ct_parser.specs.Frames.{InUnit, Mode, Begin, Stack, State}
-use Rattle.ct_parser.specs.Steps.{step, run}
+use Rattle.ct_open.specs.Frames.{InUnit, Mode, Begin, Stack, State}
+use Rattle.ct_open.specs.Steps.{step, run}
 
 module _ {C : Sort → Type 0} (alg : Algebra C) where
   -- what is read of a unit, where nothing else is open

@@ -4,7 +4,7 @@ ghost use Rattle.std.specs.Prelude.{◌≡◌};
 ghost use Rattle.ct_syntax.specs.Words.{mark_text, keyword_text, mark_of, keyword_of, is_left_out, word};
 ghost use Rattle.ct_syntax.specs.Words as spec;
 ghost use Rattle.ct_base.specs.declared.lexical.TokenKind.TheVariants.{Name as spec_name, Punct as spec_punct};
-ghost use Rattle.ct_parser.specs.Terminals.{word_of, infix_text, assign_text, spec_text, left_out_text, left_out_of};
+ghost use Rattle.ct_open.specs.Terminals.{word_of, infix_text, assign_text, spec_text, left_out_text, left_out_of};
 
 use ct_base::{BinaryOp, Token, TokenKind};
 use ct_syntax::{AssignOp, InfixOp, Keyword, Mark, MemberOp, SpecWord, StepOp};

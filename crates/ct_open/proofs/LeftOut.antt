@@ -4,8 +4,8 @@ use Rattle.std.specs.Prelude.{find, is_some}
 use Rattle.std.specs.List.{list_any}
 use Rattle.std.specs.Str.{bytes_eq}
 use Rattle.ct_syntax.specs.Words.{Text, is_left_out}
-use Rattle.ct_parser.specs.declared.words.LeftOut.{LeftOut}
-use Rattle.ct_parser.specs.Terminals.{left_out_text, left_out_words, left_out_of}
+use Rattle.ct_open.specs.declared.words.LeftOut.{LeftOut}
+use Rattle.ct_open.specs.Terminals.{left_out_text, left_out_words, left_out_of}
 
 stepped : (p : LeftOut → Bool) (x : LeftOut) (xs : List LeftOut) → is_some (find p xs) ≡ list_any p xs → (z : Bool) → is_some (cond z (Some x) (find p xs)) ≡ (z || list_any p xs)
 stepped p x xs h true = refl

@@ -7,10 +7,10 @@ use Rattle.ct_syntax.specs.declared.words.SpecWord.{SpecWord}
 use Rattle.ct_syntax.specs.declared.words.Mark.TheVariants as m
 use Rattle.ct_syntax.specs.declared.words.Keyword.TheVariants as w
 use Rattle.ct_syntax.specs.Words.{Text, Word, Named, Numbered, Quote, Literal, Sign, Key, Stray, mark_text, keyword_text}
-use Rattle.ct_parser.specs.declared.words.LeftOut.{LeftOut}
-use Rattle.ct_parser.specs.declared.words.LeftOut.TheVariants as l
-use Rattle.ct_parser.specs.declared.words.Terminal.{Terminal}
-use Rattle.ct_parser.specs.declared.words.Terminal.TheVariants as t
+use Rattle.ct_open.specs.declared.words.LeftOut.{LeftOut}
+use Rattle.ct_open.specs.declared.words.LeftOut.TheVariants as l
+use Rattle.ct_open.specs.declared.words.Terminal.{Terminal}
+use Rattle.ct_open.specs.declared.words.Terminal.TheVariants as t
 
 abbrev pub word_of : Terminal → Text → Word
 word_of t.Name text = Named text

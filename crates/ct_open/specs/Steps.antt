@@ -20,11 +20,11 @@ use Rattle.ct_syntax.specs.Words.{Text, Word, Named, Numbered, Quote, Literal, S
 use Rattle.ct_syntax.specs.Scopes.{Scope, with_name, with_maybe}
 use Rattle.ct_syntax.specs.Grammar.{begins_list, begins_specs}
 use Rattle.ct_parts.specs.Algebra.{Sort, expr, specs, decl, parameters, init, declaration, stmt, branches, items, Aimed, AtNext, AtMember, AtIndex, Algebra}
-use Rattle.ct_parser.specs.Frames.{Kind, Ordinary, OfParameter, OfType, is_free, Which, AStruct, AnEnum, Frame, InParen, InCall, InIndex, InPrefix, InUnary, InSizeof, InCast, InInfix, InYes, InNo, InAssign, InComma, CastSpecs, SizeofSpecs, CastDeclarator, SizeofDeclarator, InMembers, InMember, InEnumerators, InEnumerator, InGroup, InPointer, InArray, InParameters, InParameter}
-use Rattle.ct_parser.specs.Frames.{Mode, Want, Have, Texts, First, Dotted, Specs, Tagging, Tagged, NextMember, FirstEnumerator, NextEnumerator, Enumerated, WantDeclarator, Qualifying, Opened, HaveDeclarator, Sizing, Listing, NextParameter, Dots}
-use Rattle.ct_parser.specs.Frames.{DeclSpecs, DeclDeclarator, DeclInit, InBraces, InItem, InPlace, InAssert, InBlock, InSwitch, InFunction, InUnit, InCase, InRun, InReturn, InTest, InBranch, InElse, InLoopTest, InWhile, InDo, InDoTest, InSwitchTest, InForStart, InForTest, InForAfter, InFor, Aim, ToTest, ToLoop, ToDo, ToSwitch, ToAssert}
-use Rattle.ct_parser.specs.Frames.{WantInit, HaveInit, FirstItem, NextItem, Pointed, Placed, Opening, AssertText, AssertClose, AssertEnd, Begin, Done, Ending, AfterElse, Returning, Switching, DefaultColon, OpenFor, ForStarting, ForTesting, ForAftering}
-use Rattle.ct_parser.specs.Frames.{Stack, State, mark_pull, stack_needs, holds}
+use Rattle.ct_open.specs.Frames.{Kind, Ordinary, OfParameter, OfType, is_free, Which, AStruct, AnEnum, Frame, InParen, InCall, InIndex, InPrefix, InUnary, InSizeof, InCast, InInfix, InYes, InNo, InAssign, InComma, CastSpecs, SizeofSpecs, CastDeclarator, SizeofDeclarator, InMembers, InMember, InEnumerators, InEnumerator, InGroup, InPointer, InArray, InParameters, InParameter}
+use Rattle.ct_open.specs.Frames.{Mode, Want, Have, Texts, First, Dotted, Specs, Tagging, Tagged, NextMember, FirstEnumerator, NextEnumerator, Enumerated, WantDeclarator, Qualifying, Opened, HaveDeclarator, Sizing, Listing, NextParameter, Dots}
+use Rattle.ct_open.specs.Frames.{DeclSpecs, DeclDeclarator, DeclInit, InBraces, InItem, InPlace, InAssert, InBlock, InSwitch, InFunction, InUnit, InCase, InRun, InReturn, InTest, InBranch, InElse, InLoopTest, InWhile, InDo, InDoTest, InSwitchTest, InForStart, InForTest, InForAfter, InFor, Aim, ToTest, ToLoop, ToDo, ToSwitch, ToAssert}
+use Rattle.ct_open.specs.Frames.{WantInit, HaveInit, FirstItem, NextItem, Pointed, Placed, Opening, AssertText, AssertClose, AssertEnd, Begin, Done, Ending, AfterElse, Returning, Switching, DefaultColon, OpenFor, ForStarting, ForTesting, ForAftering}
+use Rattle.ct_open.specs.Frames.{Stack, State, mark_pull, stack_needs, holds}
 
 -- the operator that a mark is before an operand
 abbrev pub prefix_of : Mark → Option PrefixOp

@@ -1,0 +1,79 @@
+//! Items, one by one.
+
+ghost use Rattle.std.specs.Prelude.{◌≡◌, ◌<◌, ◌≤◌, [], ◌∷◌, false, length, drop, IfOk, MatchOption, Some, None};
+ghost use Rattle.ct_open.specs.Code.{entries, frames, stack, scope, mode_of};
+ghost use Rattle.ct_open.specs.Frames.{InUnit, Begin};
+ghost use Rattle.ct_parser.specs.Reading.{is_between as spec_between, read_item as spec_read};
+ghost use Rattle.ct_parts.specs.Parts.{parts_built};
+ghost use Rattle.ct_parts.specs.Views.{items_part};
+ghost use Rattle.ct_syntax.specs.Words.{words};
+
+use ct_base::{Mem, Token};
+use ct_build::no_items;
+use ct_open::{BodyFrame, Frame, Mode, Open, StatementMode};
+use ct_parts::Built;
+use ct_step::step;
+use ct_syntax::Item;
+use std::alloc::Global;
+
+/// An item: what is built of it, and the place behind it.
+#[derive(Drop)]
+pub struct ItemRead {
+    pub built: Built<Vec<Item>>,
+    pub next: usize,
+}
+
+/// The items that are read, where an item has ended and none has begun, and nothing else is open.
+fn items_between(state: &mut Open, mode: &Mode) -> Mem<Option<Built<Vec<Item>>>>
+    ensures between { IfOk result (λ o. MatchOption o (spec_between (stack state.old) (mode_of mode.now) ≡ false) (λ all. (stack state.old ≡ InUnit (items_part all) ∷ []) × (mode_of mode.now ≡ Begin))) }
+    ensures frames { IfOk result (λ o. MatchOption o (frames state.new ≡ frames state.old) (λ all. frames state.new ≡ [])) }
+    ensures names { entries state.new ≡ entries state.old }
+{
+    if !matches!(mode, Mode::Statement(StatementMode::Begin)) {
+        return Ok(None);
+    }
+    let Some(frame) = state.pop() else {
+        return Ok(None);
+    };
+    let Frame::Body(BodyFrame::Unit(items)) = frame else {
+        state.push(frame)?;
+        return Ok(None);
+    };
+    let Some(below) = state.pop() else {
+        return Ok(Some(items));
+    };
+    state.push(below)?;
+    state.push(Frame::Body(BodyFrame::Unit(items)))?;
+    Ok(None)
+}
+
+/// Reads the item that begins at a place, if one does.
+#[tactic(auto, using(crate::proofs::OneMore::found_at, crate::proofs::OneMore::read_refused, crate::proofs::OneMore::read_ended, crate::proofs::OneMore::read_on, crate::proofs::OneMore::read_all))]
+pub fn read_item(
+    alloc: Global,
+    state: &mut Open,
+    tokens: &[Token],
+    place: usize,
+) -> Mem<Option<ItemRead>>
+    requires empty { frames state.old ≡ [] }
+    requires place { place ≤ length tokens.now }
+    ensures read { IfOk result (λ o. MatchOption o
+        (spec_read parts_built (words (drop place tokens.now)) (scope state.old) (InUnit parts_built.no_items ∷ []) Begin ≡ None)
+        (λ r. spec_read parts_built (words (drop place tokens.now)) (scope state.old) (InUnit parts_built.no_items ∷ []) Begin ≡ Some ((scope state.new, InUnit (items_part r.built) ∷ [], Begin), words (drop r.next tokens.now)))) }
+    ensures further { IfOk result (λ o. MatchOption o Unit {0} (λ r. (place < r.next) × (r.next ≤ length tokens.now) × (frames state.new ≡ []))) }
+{
+    let none = no_items(alloc);
+    state.push(Frame::Body(BodyFrame::Unit(none)))?;
+    let mut mode = Mode::Statement(StatementMode::Begin);
+    for index in place..tokens.len() {
+        let Some(next) = step(alloc, state, mode, &tokens[index])? else {
+            return Ok(None);
+        };
+        if let Some(built) = items_between(state, &next)? {
+            let next = index + 1;
+            return Ok(Some(ItemRead { built, next }));
+        }
+        mode = next;
+    }
+    Ok(None)
+}
