@@ -1,7 +1,7 @@
 //! Declarators, token by token (C11 6.7.6, 6.7.7).
 
 ghost use Rattle.std.specs.Prelude.{◌≡◌, OnOk, IfOk};
-ghost use Rattle.ct_open.specs.Code.{Stepped, entries, stack, scope, kind_of};
+ghost use Rattle.ct_open.specs.Code.{Stepped, entries, frames, outside, stack, scope, kind_of};
 ghost use Rattle.ct_open.specs.Steps as m;
 ghost use Rattle.ct_open.specs.Terminals.{word_of};
 ghost use Rattle.ct_open.specs.declared.state.Open.{Open as Held};
@@ -62,7 +62,8 @@ fn declare_named(
     is_type: bool,
 ) -> Mem<()>
     ensures scope { OnOk result (scope state.new ≡ with_maybe (scope state.old) (parts_built.name_in (declarator_part declarator.now)) is_type) }
-    ensures stack { OnOk result (stack state.new ≡ stack state.old) }
+    ensures outside { OnOk result (outside (entries state.new) ≡ outside (entries state.old)) }
+    ensures frames { OnOk result (frames state.new ≡ frames state.old) }
 {
     let Some(name) = &declarator.name else {
         return Ok(());
@@ -297,14 +298,16 @@ fn want_mark(
 ) -> Mem<Option<Mode>>
     ensures { IfOk result (λ r. Stepped state.new r (m.want_mark parts_built (scope state.old) (stack state.old) (kind_of purpose) mark)) }
 {
-    if matches!(mark, Mark::Open) {
-        return Ok(Some(Mode::Declarator(DeclaratorMode::Opened(at, purpose))));
+    match mark {
+        Mark::Open => Ok(Some(Mode::Declarator(DeclaratorMode::Opened(at, purpose)))),
+        _ => {
+            if is_star(mark) {
+                let none = Items::new(alloc);
+                return Ok(Some(Mode::Declarator(DeclaratorMode::Qualifying(at, purpose, none))));
+            }
+            no_name(alloc, state, purpose, Terminal::Mark(mark), at)
+        }
     }
-    if is_star(mark) {
-        let none = Items::new(alloc);
-        return Ok(Some(Mode::Declarator(DeclaratorMode::Qualifying(at, purpose, none))));
-    }
-    no_name(alloc, state, purpose, Terminal::Mark(mark), at)
 }
 
 /// A token where a declarator is wanted.
