@@ -1,3 +1,4 @@
 pub mod Forms
-pub mod Marks
+pub mod Others
 pub mod Pulls
+pub mod Within
