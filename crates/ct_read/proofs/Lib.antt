@@ -1,1 +1,4 @@
+pub mod Forms
+pub mod Others
 pub mod Pulls
+pub mod Within

@@ -1,18 +1,20 @@
 //! Declarators, token by token (C11 6.7.6, 6.7.7).
 
-ghost use Rattle.std.specs.Prelude.{◌≡◌, OnOk, IfOk};
-ghost use Rattle.ct_open.specs.Code.{Stepped, entries, stack, scope, kind_of};
+ghost use Rattle.std.specs.Prelude.{◌≡◌, OnOk, IfOk, Some, [], if◌then◌else◌};
+ghost use Rattle.ct_open.specs.Code.{Stepped, entries, frames, outside, stack, scope, kind_of};
+ghost use Rattle.ct_open.specs.Frames.{Qualifying};
 ghost use Rattle.ct_open.specs.Steps as m;
 ghost use Rattle.ct_open.specs.Terminals.{word_of};
 ghost use Rattle.ct_open.specs.declared.state.Open.{Open as Held};
 ghost use Rattle.ct_parts.specs.Parts.{parts_built};
 ghost use Rattle.ct_parts.specs.Views.{declarator_part, parameters_part};
 ghost use Rattle.ct_syntax.specs.Scopes.{with_maybe};
-ghost use Rattle.ct_syntax.specs.Words.{Text};
+ghost use Rattle.ct_syntax.specs.Words.{Text, Sign};
 ghost use Rattle.ct_syntax.specs.declared.words.Mark.TheVariants.{Close as close, Comma as comma, Semicolon as semicolon, Assign as assign, OpenBrace as open_brace};
 ghost use Rattle.ct_syntax.specs.declared.words.AssignOp.TheVariants.{Plain as plain};
 
 use crate::declarations::{declaration_done, definition_opens};
+use crate::signs::opens;
 use ct_base::{BinaryOp, Bytes, Items, Mem, Span, Token};
 use ct_build as parts;
 use ct_open::{
@@ -62,7 +64,8 @@ fn declare_named(
     is_type: bool,
 ) -> Mem<()>
     ensures scope { OnOk result (scope state.new ≡ with_maybe (scope state.old) (parts_built.name_in (declarator_part declarator.now)) is_type) }
-    ensures stack { OnOk result (stack state.new ≡ stack state.old) }
+    ensures outside { OnOk result (outside (entries state.new) ≡ outside (entries state.old)) }
+    ensures frames { OnOk result (frames state.new ≡ frames state.old) }
 {
     let Some(name) = &declarator.name else {
         return Ok(());
@@ -287,6 +290,23 @@ fn is_star(mark: Mark) -> bool
     matches!(mark, Mark::Infix(InfixOp::Number(BinaryOp::Multiply)))
 }
 
+/// A mark other than an open parenthesis where a declarator is wanted.
+fn want_other(
+    alloc: Global,
+    state: &mut Open,
+    purpose: Purpose,
+    mark: Mark,
+    at: Span,
+) -> Mem<Option<Mode>>
+    ensures { IfOk result (λ r. Stepped state.new r (if m.is_star mark then Some (scope state.old, stack state.old, Qualifying (kind_of purpose) []) else m.no_name parts_built (scope state.old) (stack state.old) (kind_of purpose) (Sign mark))) }
+{
+    if is_star(mark) {
+        let none = Items::new(alloc);
+        return Ok(Some(Mode::Declarator(DeclaratorMode::Qualifying(at, purpose, none))));
+    }
+    no_name(alloc, state, purpose, Terminal::Mark(mark), at)
+}
+
 /// A mark where a declarator is wanted.
 fn want_mark(
     alloc: Global,
@@ -297,14 +317,10 @@ fn want_mark(
 ) -> Mem<Option<Mode>>
     ensures { IfOk result (λ r. Stepped state.new r (m.want_mark parts_built (scope state.old) (stack state.old) (kind_of purpose) mark)) }
 {
-    if matches!(mark, Mark::Open) {
+    if opens(mark) {
         return Ok(Some(Mode::Declarator(DeclaratorMode::Opened(at, purpose))));
     }
-    if is_star(mark) {
-        let none = Items::new(alloc);
-        return Ok(Some(Mode::Declarator(DeclaratorMode::Qualifying(at, purpose, none))));
-    }
-    no_name(alloc, state, purpose, Terminal::Mark(mark), at)
+    want_other(alloc, state, purpose, mark, at)
 }
 
 /// A token where a declarator is wanted.

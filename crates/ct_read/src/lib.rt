@@ -4,6 +4,7 @@
 mod declarations;
 mod declarators;
 mod modes;
+mod signs;
 mod specifiers;
 mod types;
 mod values;

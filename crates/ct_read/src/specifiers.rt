@@ -6,12 +6,13 @@ ghost use Rattle.ct_open.specs.Steps as m;
 ghost use Rattle.ct_open.specs.Terminals.{word_of};
 ghost use Rattle.ct_parts.specs.Parts.{parts_built};
 ghost use Rattle.ct_parts.specs.Views.{declarator_part, specs_part};
-ghost use Rattle.ct_open.specs.Frames.{is_free};
+ghost use Rattle.ct_open.specs.Frames.{is_free, InArray, InParameters};
 ghost use Rattle.ct_syntax.specs.Grammar.{begins_specs as spec_begins, begins_list as spec_begins_list};
 ghost use Rattle.ct_syntax.specs.Words.{Text};
 
 use crate::declarations::declaration_done;
 use crate::declarators::want_declarator;
+use crate::signs::{is_close, is_close_bracket, is_open_brace};
 use crate::types::{forms_type, has_type};
 use crate::values::begin;
 use ct_base::{Bytes, Mem, Span, Token};
@@ -212,7 +213,7 @@ pub fn tagged(
 ) -> Mem<Option<Mode>>
     ensures { IfOk result (λ r. Stepped state.new r (m.tagged parts_built (scope state.old) (stack state.old) (which_of sort) (specs_part specs) tag (word_of terminal token.now.text))) }
 {
-    if matches!(terminal, Terminal::Mark(Mark::OpenBrace)) {
+    if is_open_brace(terminal) {
         return open_braces(alloc, state, sort, at, specs, Some(tag));
     }
     let specs = with_tag(sort, specs, tag, at)?;
@@ -333,6 +334,21 @@ pub fn enumerated(
     }
 }
 
+/// The size of an array, from its first token on.
+fn size_begins(
+    alloc: Global,
+    state: &mut Open,
+    purpose: Purpose,
+    inner: DeclaratorPart,
+    terminal: Terminal,
+    token: &Token,
+) -> Mem<Option<Mode>>
+    ensures { IfOk result (λ r. Stepped state.new r (m.begin parts_built (scope state.old) (InArray (kind_of purpose) (declarator_part inner) ∷ stack state.old) (word_of terminal token.now.text))) }
+{
+    state.push(Frame::Value(ValueFrame::Array(purpose, inner)))?;
+    begin(alloc, state, terminal, token)
+}
+
 /// A token behind the open bracket of a declarator.
 pub fn sizing(
     alloc: Global,
@@ -344,14 +360,34 @@ pub fn sizing(
 ) -> Mem<Option<Mode>>
     ensures { IfOk result (λ r. Stepped state.new r (m.sizing parts_built (scope state.old) (stack state.old) (kind_of purpose) (declarator_part inner) (word_of terminal token.now.text))) }
 {
-    if matches!(terminal, Terminal::Mark(Mark::CloseBracket)) {
-        return Ok(Some(Mode::Declarator(DeclaratorMode::Have(
-            purpose,
-            parts::array_open(alloc, inner)?,
-        ))));
+    if is_close_bracket(terminal) {
+        let array = parts::array_open(alloc, inner)?;
+        return Ok(Some(Mode::Declarator(DeclaratorMode::Have(purpose, array))));
     }
-    state.push(Frame::Value(ValueFrame::Array(purpose, inner)))?;
-    begin(alloc, state, terminal, token)
+    size_begins(alloc, state, purpose, inner, terminal, token)
+}
+
+/// A parameter list, from its first token on.
+fn list_begins(
+    alloc: Global,
+    state: &mut Open,
+    purpose: Purpose,
+    inner: DeclaratorPart,
+    terminal: Terminal,
+    token: &Token,
+) -> Mem<Option<Mode>>
+    ensures { IfOk result (λ r. Stepped state.new r (m.specs_step parts_built (scope state.old) (InParameters (kind_of purpose) (scope state.old) (declarator_part inner) parts_built.no_parameters ∷ stack state.old) parts_built.no_specs (word_of terminal token.now.text))) }
+{
+    let none = parts::no_parameters(alloc);
+    state.enter()?;
+    state.push(Frame::Specs(SpecsFrame::Parameters(purpose, inner, none)))?;
+    specs_step(
+        alloc,
+        state,
+        parts::no_specs(alloc, token.span),
+        terminal,
+        token,
+    )
 }
 
 /// A token behind the open parenthesis of a parameter list.
@@ -365,20 +401,12 @@ pub fn listing(
 ) -> Mem<Option<Mode>>
     ensures { IfOk result (λ r. Stepped state.new r (m.listing parts_built (scope state.old) (stack state.old) (kind_of purpose) (declarator_part inner) (word_of terminal token.now.text))) }
 {
-    let none = parts::no_parameters(alloc);
-    if matches!(terminal, Terminal::Mark(Mark::Close)) {
+    if is_close(terminal) {
+        let none = parts::no_parameters(alloc);
         let function = parts::function(alloc, inner, ParameterForm::Empty, none)?;
         return Ok(Some(Mode::Declarator(DeclaratorMode::Have(purpose, function))));
     }
-    state.enter()?;
-    state.push(Frame::Specs(SpecsFrame::Parameters(purpose, inner, none)))?;
-    specs_step(
-        alloc,
-        state,
-        parts::no_specs(alloc, token.span),
-        terminal,
-        token,
-    )
+    list_begins(alloc, state, purpose, inner, terminal, token)
 }
 
 /// Whether a token begins specifiers.

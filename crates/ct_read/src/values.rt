@@ -2,7 +2,7 @@
 
 ghost use Rattle.std.specs.Prelude.{◌≡◌, ◌<◌, ◌∷◌, IfOk, Some, None, if◌then◌else◌, nat_lt};
 ghost use Rattle.ct_open.specs.Code.{Stepped, entries, stack, scope, under, operand_frame, value_frame};
-ghost use Rattle.ct_open.specs.Frames.{CastSpecs, Want, mark_pull as spec_pull, needs, stack_needs};
+ghost use Rattle.ct_open.specs.Frames.{CastSpecs, SizeofSpecs, InCall, InParen, Want, mark_pull as spec_pull, needs, stack_needs};
 ghost use Rattle.ct_open.specs.Steps as m;
 ghost use Rattle.ct_open.specs.Terminals.{word_of};
 ghost use Rattle.ct_open.specs.declared.frames.Frame.TheVariants.{Clause as clause, Value as value};
@@ -11,6 +11,7 @@ ghost use Rattle.ct_parts.specs.Views.{expr_of};
 ghost use Rattle.ct_syntax.specs.Words.{Text};
 
 use crate::declarations::{declarator_started, item_ended};
+use crate::signs::{is_close, sizeof_place};
 use crate::specifiers::specs_step;
 use ct_base::{BinaryOp, Bytes, Items, Mem, Span, Token};
 use ct_build as parts;
@@ -426,7 +427,62 @@ fn begin_cast(
     )
 }
 
-/// A type right behind an open parenthesis begins a cast, or is the operand of `sizeof` (C11 6.5.3.4, 6.5.4).
+/// The specifiers of a type that is the operand of `sizeof`, behind its open parenthesis.
+fn begin_sizeof(
+    alloc: Global,
+    state: &mut Open,
+    at: Span,
+    terminal: Terminal,
+    token: &Token,
+) -> Mem<Option<Mode>>
+    ensures { IfOk result (λ r. Stepped state.new r (m.specs_step parts_built (scope state.old) (SizeofSpecs (scope state.old) ∷ stack state.old) parts_built.no_specs (word_of terminal token.now.text))) }
+{
+    state.enter()?;
+    state.push(Frame::Specs(SpecsFrame::Sizeof(at)))?;
+    specs_step(
+        alloc,
+        state,
+        parts::no_specs(alloc, token.span),
+        terminal,
+        token,
+    )
+}
+
+/// The specifiers of a cast, with the production that the parenthesis stands in.
+fn begin_cast_in(
+    alloc: Global,
+    state: &mut Open,
+    at: Span,
+    frame: Frame,
+    terminal: Terminal,
+    token: &Token,
+) -> Mem<Option<Mode>>
+    ensures { IfOk result (λ r. Stepped state.new r (if nat_lt 14 (stack_needs (under state.old frame)) then None else m.specs_step parts_built (scope state.old) (CastSpecs (scope state.old) ∷ under state.old frame) parts_built.no_specs (word_of terminal token.now.text))) }
+{
+    state.push(frame)?;
+    begin_cast(alloc, state, at, terminal, token)
+}
+
+/// A type behind an open parenthesis that was taken off (C11 6.5.3.4, 6.5.4).
+fn begin_inside(
+    alloc: Global,
+    state: &mut Open,
+    at: Span,
+    terminal: Terminal,
+    token: &Token,
+) -> Mem<Option<Mode>>
+    ensures { IfOk result (λ r. Stepped state.new r (m.begin_type parts_built (scope state.old) (InParen ∷ stack state.old) (word_of terminal token.now.text))) }
+{
+    let Some(frame) = state.pop() else {
+        return begin_cast(alloc, state, at, terminal, token);
+    };
+    match sizeof_place(&frame) {
+        Some(place) => begin_sizeof(alloc, state, place, terminal, token),
+        None => begin_cast_in(alloc, state, at, frame, terminal, token),
+    }
+}
+
+/// A type right behind an open parenthesis begins a cast, or is the operand of `sizeof`.
 fn begin_type(
     alloc: Global,
     state: &mut Open,
@@ -438,22 +494,7 @@ fn begin_type(
     let Some(Frame::Value(ValueFrame::Paren(at))) = state.pop() else {
         return Ok(None);
     };
-    let Some(frame) = state.pop() else {
-        return begin_cast(alloc, state, at, terminal, token);
-    };
-    let Frame::Operand(OperandFrame::Sizeof(place)) = frame else {
-        state.push(frame)?;
-        return begin_cast(alloc, state, at, terminal, token);
-    };
-    state.enter()?;
-    state.push(Frame::Specs(SpecsFrame::Sizeof(place)))?;
-    specs_step(
-        alloc,
-        state,
-        parts::no_specs(alloc, token.span),
-        terminal,
-        token,
-    )
+    begin_inside(alloc, state, at, terminal, token)
 }
 
 /// A name where an operand is wanted.
@@ -555,6 +596,21 @@ pub fn texts(
     after(alloc, state, x, terminal)
 }
 
+/// The first argument of a call, from its first token on.
+fn argument_begins(
+    alloc: Global,
+    state: &mut Open,
+    function: ExprPart,
+    terminal: Terminal,
+    token: &Token,
+) -> Mem<Option<Mode>>
+    ensures { IfOk result (λ r. Stepped state.new r (m.begin parts_built (scope state.old) (InCall (expr_of function) parts_built.no_arguments ∷ stack state.old) (word_of terminal token.now.text))) }
+{
+    let none = parts::no_arguments(alloc);
+    state.push(Frame::Value(ValueFrame::Call(function, none)))?;
+    begin(alloc, state, terminal, token)
+}
+
 /// A token behind the open parenthesis of a call.
 pub fn first(
     alloc: Global,
@@ -565,12 +621,12 @@ pub fn first(
 ) -> Mem<Option<Mode>>
     ensures { IfOk result (λ r. Stepped state.new r (m.first parts_built (scope state.old) (stack state.old) (expr_of function) (word_of terminal token.now.text))) }
 {
-    let none = parts::no_arguments(alloc);
-    if matches!(terminal, Terminal::Mark(Mark::Close)) {
-        return Ok(Some(Mode::Value(ValueMode::Have(parts::call(alloc, function, none)?))));
+    if is_close(terminal) {
+        let none = parts::no_arguments(alloc);
+        let whole = parts::call(alloc, function, none)?;
+        return Ok(Some(Mode::Value(ValueMode::Have(whole))));
     }
-    state.push(Frame::Value(ValueFrame::Call(function, none)))?;
-    begin(alloc, state, terminal, token)
+    argument_begins(alloc, state, function, terminal, token)
 }
 
 /// A token where the name of a member is wanted.
