@@ -31,23 +31,23 @@ pub record Refused (tokens : List Token) (span : Span) (limit : Option LimitKind
 
 -- the items are the tree that spells the tokens, and pass no limit of depth
 abbrev pub Parsed : List Token → List t.Item → Type 0
-Parsed tokens items = Spells items (words tokens) × IsShallow items
+Parsed tokens all = Spells all (words tokens) × IsShallow all
 
 -- What is built of the items so far: all of them, or the place of the first one that passes a limit, and which.
 abbrev pub Reached : List Token → List t.Item → List t.Item → Option (ℕ × LimitKind) → Type 0
-Reached tokens is items None = (items ≡ is) × IsShallow is
-Reached tokens is items (Some (place, kind)) =
+Reached tokens is kept None = (kept ≡ is) × IsShallow is
+Reached tokens is kept (Some (place, kind)) =
     (place < length tokens)
     × ((earlier : List t.Item) × (deep : t.Item) × (later : List t.Item) × (is ≡ earlier ++ deep ∷ later)
     × (spell_unit earlier (words (drop place tokens)) ≡ words tokens) × IsShallow earlier × (passed_item all_room deep ≡ Some kind))
 
 -- the tokens before a place are items
-pub record Progress (tokens : List Token) (place : ℕ) (scope : Scope) (items : List t.Item) (deep : Option (ℕ × LimitKind)) : Type 0 where
+pub record Progress (tokens : List Token) (place : ℕ) (scope : Scope) (kept : List t.Item) (deep : Option (ℕ × LimitKind)) : Type 0 where
   pub all : List t.Item
   pub is_unit : IsUnit no_names all
   pub spelled : spell_unit all (words (drop place tokens)) ≡ words tokens
   pub scope_is : scope ≡ after_unit no_names all
-  pub reached : Reached tokens all items deep
+  pub reached : Reached tokens all kept deep
 
 -- ---- one item more
 

@@ -16,6 +16,11 @@ module _ {C : Sort → Type 0} (alg : Algebra C) where
   abbrev pub unit_of : List Word → Option (C items)
   unit_of ws = unit_read (run alg ws no_names (InUnit alg.no_items ∷ []) Begin)
 
+  -- a statement, or what else may stand in its place, comes next
+  abbrev pub is_begin : Mode C → Bool
+  is_begin Begin = true
+  is_begin _ = false
+
   -- an item has ended here, and none has begun
   abbrev pub is_between : Stack C → Mode C → Bool
   is_between (InUnit is ∷ []) Begin = true

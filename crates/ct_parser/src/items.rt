@@ -3,7 +3,7 @@
 ghost use Rattle.std.specs.Prelude.{◌≡◌, ◌<◌, ◌≤◌, [], ◌∷◌, false, length, drop, IfOk, MatchOption, Some, None};
 ghost use Rattle.ct_open.specs.Code.{entries, frames, stack, scope, mode_of};
 ghost use Rattle.ct_open.specs.Frames.{InUnit, Begin};
-ghost use Rattle.ct_parser.specs.Reading.{is_between as spec_between, read_item as spec_read};
+ghost use Rattle.ct_parser.specs.Reading.{is_begin as spec_begin, is_between as spec_between, read_item as spec_read};
 ghost use Rattle.ct_parts.specs.Parts.{parts_built};
 ghost use Rattle.ct_parts.specs.Views.{items_part};
 ghost use Rattle.ct_syntax.specs.Words.{words};
@@ -23,13 +23,21 @@ pub struct ItemRead {
     pub next: usize,
 }
 
+/// Whether a statement, or what else may stand in its place, comes next.
+fn is_begin(mode: &Mode) -> bool
+    ensures { result ≡ spec_begin parts_built (mode_of mode.now) }
+{
+    matches!(mode, Mode::Statement(StatementMode::Begin))
+}
+
 /// The items that are read, where an item has ended and none has begun, and nothing else is open.
+#[tactic(auto, using(crate::proofs::OneMore::begun, crate::proofs::OneMore::not_begun))]
 fn items_between(state: &mut Open, mode: &Mode) -> Mem<Option<Built<Vec<Item>>>>
-    ensures between { IfOk result (λ o. MatchOption o (spec_between (stack state.old) (mode_of mode.now) ≡ false) (λ all. (stack state.old ≡ InUnit (items_part all) ∷ []) × (mode_of mode.now ≡ Begin))) }
+    ensures between { IfOk result (λ o. MatchOption o (spec_between parts_built (stack state.old) (mode_of mode.now) ≡ false) (λ all. (stack state.old ≡ InUnit (items_part all) ∷ []) × (mode_of mode.now ≡ Begin))) }
     ensures frames { IfOk result (λ o. MatchOption o (frames state.new ≡ frames state.old) (λ all. frames state.new ≡ [])) }
     ensures names { entries state.new ≡ entries state.old }
 {
-    if !matches!(mode, Mode::Statement(StatementMode::Begin)) {
+    if !is_begin(mode) {
         return Ok(None);
     }
     let Some(frame) = state.pop() else {
@@ -60,7 +68,7 @@ pub fn read_item(
     ensures read { IfOk result (λ o. MatchOption o
         (spec_read parts_built (words (drop place tokens.now)) (scope state.old) (InUnit parts_built.no_items ∷ []) Begin ≡ None)
         (λ r. spec_read parts_built (words (drop place tokens.now)) (scope state.old) (InUnit parts_built.no_items ∷ []) Begin ≡ Some ((scope state.new, InUnit (items_part r.built) ∷ [], Begin), words (drop r.next tokens.now)))) }
-    ensures further { IfOk result (λ o. MatchOption o Unit {0} (λ r. (place < r.next) × (r.next ≤ length tokens.now) × (frames state.new ≡ []))) }
+    ensures further { IfOk result (λ o. MatchOption o (Unit {0}) (λ r. (place < r.next) × (r.next ≤ length tokens.now) × (frames state.new ≡ []))) }
 {
     let none = no_items(alloc);
     state.push(Frame::Body(BodyFrame::Unit(none)))?;

@@ -3,9 +3,9 @@
 
 mod items;
 mod laws;
-mod parse;
+mod reader;
 #[cfg(test)]
 mod tests;
 
 pub use laws::{no_tree, one_tree, one_unspelled};
-pub use parse::{SyntaxFault, parse};
+pub use reader::{SyntaxFault, parse};

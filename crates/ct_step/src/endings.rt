@@ -1,58 +1,53 @@
 //! Statements, where they end, and the parts of those that begin with a keyword (C11 6.8).
 
-ghost use Rattle.std.specs.Prelude.{◌≡◌, List, ◌∷◌, IsTrue, IfOk, MatchOption, None};
-ghost use Rattle.ct_open.specs.Code.{Stepped, PartStack, stack, scope, frames, under, behind, body_frame as body_in, statement_mode, is_passed as spec_passed};
+ghost use Rattle.std.specs.Prelude.{◌≡◌, List, [], ◌∷◌, if◌then◌else◌, false, IsTrue, IfOk, MatchOption, None};
+ghost use Rattle.ct_open.specs.Code.{Stepped, PartStack, stack, scope, frames, under, behind, body_frame as body_in, statement_mode};
+ghost use Rattle.ct_open.specs.Frames.{DeclSpecs, InElse, InReturn};
 ghost use Rattle.ct_open.specs.Steps as m;
 ghost use Rattle.ct_open.specs.Terminals.{word_of};
 ghost use Rattle.ct_open.specs.declared.entries.Entry.{Entry};
 ghost use Rattle.ct_open.specs.declared.frames.Frame.TheVariants.{Body as body_frame, Statement as statement_frame};
 ghost use Rattle.ct_parts.specs.Parts.{parts_built};
 ghost use Rattle.ct_parts.specs.Views.{expr_of, branches_part, statement_part};
+ghost use Rattle.ct_step.specs.Ends.{is_ended as spec_ended, is_closed as spec_closed};
+ghost use Rattle.ct_syntax.specs.Grammar.{begins_specs as spec_begins};
 ghost use Rattle.ct_syntax.specs.Scopes.{Scope};
 ghost use Rattle.ct_syntax.specs.Words.{Text, Word};
 
-use crate::statements::{begin_part, opening, statement};
+use crate::statements::{begin_declaration, begin_part, opening, statement};
+use crate::which::{is_assertion, is_if, is_semicolon};
 use ct_base::{Mem, Span, Token};
 use ct_build as parts;
 use ct_open::{
-    Aim, BodyFrame, ClauseFrame, Frame, Mode, Open, SpecsFrame, StatementFrame, StatementMode,
-    Terminal,
+    Aim, BodyFrame, ClauseFrame, Frame, Mode, Open, StatementFrame, StatementMode, Terminal,
 };
 use ct_parts::{Built, ExprPart};
-use ct_read::{begin, begins_specs, specs_step};
+use ct_read::{begin, begins_specs};
 use ct_syntax::{Branch, Keyword, Mark, Statement};
 use std::alloc::Global;
 
-/// Whether the end of its last part ends a statement, an `else` behind it too.
-fn is_passed(frame: &StatementFrame) -> bool
-    ensures { result ≡ spec_passed frame.now }
-{
-    matches!(
-        frame,
-        StatementFrame::Else(_, _) | StatementFrame::While(_, _) | StatementFrame::For(_, _, _, _)
-    )
-}
-
-/// A statement with its last part.
-fn whole(
-    alloc: Global,
-    state: &mut Open,
-    frame: StatementFrame,
-    done: Built<Statement>,
-) -> Mem<Built<Statement>>
-    requires { IsTrue (spec_passed frame) }
-    ensures ended { IfOk result (λ p. m.ended parts_built (scope state.old) (under state.old (statement_frame frame)) (statement_part done) ≡ m.ended parts_built (scope state.new) (stack state.new) (statement_part p)) }
-    ensures on_else { IfOk result (λ p. m.on_else parts_built (scope state.old) (under state.old (statement_frame frame)) (statement_part done) ≡ m.on_else parts_built (scope state.new) (stack state.new) (statement_part p)) }
-    ensures frames { frames state.new ≡ frames state.old }
+/// Whether the end of its last part ends a production.
+fn is_ended(frame: &Frame) -> bool
+    ensures { result ≡ spec_ended frame.now }
 {
     match frame {
-        StatementFrame::Else(ladder, branches) => parts::if_else(alloc, ladder, branches, done),
-        StatementFrame::While(at, test) => parts::while_loop(alloc, at, test, done),
-        StatementFrame::For(at, start, test, after) => {
-            state.leave();
-            parts::for_loop(alloc, at, start, test, after, done)
-        }
-        _ => Ok(done),
+        Frame::Statement(frame) => !matches!(frame, StatementFrame::Do(_)),
+        _ => false,
+    }
+}
+
+/// Whether an `else` behind its last part ends a production too.
+fn is_closed(frame: &Frame) -> bool
+    ensures { result ≡ spec_closed frame.now }
+{
+    match frame {
+        Frame::Statement(frame) => matches!(
+            frame,
+            StatementFrame::Else(_, _)
+                | StatementFrame::While(_, _)
+                | StatementFrame::For(_, _, _, _)
+        ),
+        _ => false,
     }
 }
 
@@ -71,27 +66,79 @@ fn ladder(
     parts::if_branches(alloc, at, branches)
 }
 
+/// A statement with its last part.
+fn whole(
+    alloc: Global,
+    state: &mut Open,
+    frame: StatementFrame,
+    done: Built<Statement>,
+) -> Mem<Built<Statement>>
+    requires { IsTrue (spec_ended (statement_frame frame)) }
+    ensures ended { IfOk result (λ p. m.ended parts_built (scope state.old) (under state.old (statement_frame frame)) (statement_part done) ≡ m.ended parts_built (scope state.new) (stack state.new) (statement_part p)) }
+    ensures closed { IfOk result (λ p. IsTrue (spec_closed (statement_frame frame)) → m.on_else parts_built (scope state.old) (under state.old (statement_frame frame)) (statement_part done) ≡ m.on_else parts_built (scope state.new) (stack state.new) (statement_part p)) }
+    ensures frames { frames state.new ≡ frames state.old }
+{
+    match frame {
+        StatementFrame::Branch(at, before, place, test) => ladder(
+            alloc, at, before, place, test, done,
+        ),
+        StatementFrame::Else(ladder, branches) => parts::if_else(alloc, ladder, branches, done),
+        StatementFrame::While(at, test) => parts::while_loop(alloc, at, test, done),
+        StatementFrame::For(at, start, test, after) => {
+            state.leave();
+            parts::for_loop(alloc, at, start, test, after, done)
+        }
+        StatementFrame::Do(_) => Ok(done),
+    }
+}
+
+/// A statement with its last part, where that ends it.
+fn whole_in(
+    alloc: Global,
+    state: &mut Open,
+    frame: Frame,
+    done: Built<Statement>,
+) -> Mem<Built<Statement>>
+    requires { IsTrue (spec_ended frame) }
+    ensures ended { IfOk result (λ p. m.ended parts_built (scope state.old) (under state.old frame) (statement_part done) ≡ m.ended parts_built (scope state.new) (stack state.new) (statement_part p)) }
+    ensures closed { IfOk result (λ p. IsTrue (spec_closed frame) → m.on_else parts_built (scope state.old) (under state.old frame) (statement_part done) ≡ m.on_else parts_built (scope state.new) (stack state.new) (statement_part p)) }
+    ensures frames { frames state.new ≡ frames state.old }
+{
+    match frame {
+        Frame::Statement(frame) => whole(alloc, state, frame, done),
+        _ => Ok(done),
+    }
+}
+
 /// Ends the statements that no word of their own ends, up to braces or a `do`.
+#[tactic(auto, using(crate::proofs::Ends::ended_none, crate::proofs::Ends::ended_stops))]
 fn ended(alloc: Global, state: &mut Open, done: Built<Statement>) -> Mem<Built<Statement>>
     ensures { IfOk result (λ p. m.ended parts_built (scope state.old) (stack state.old) (statement_part done) ≡ (scope state.new, stack state.new, statement_part p)) }
 {
     let mut done = done;
     while let Some(frame) = state.pop() {
-        let Frame::Statement(frame) = frame else {
+        if !is_ended(&frame) {
             state.push(frame)?;
             return Ok(done);
-        };
-        if is_passed(&frame) {
-            done = whole(alloc, state, frame, done)?;
-            continue;
         }
-        let StatementFrame::Branch(at, before, place, test) = frame else {
-            state.push(Frame::Statement(frame))?;
-            return Ok(done);
-        };
-        done = ladder(alloc, at, before, place, test, done)?;
+        done = whole_in(alloc, state, frame, done)?;
     }
     Ok(done)
+}
+
+/// An `else` behind the last part of a production that it does not end: that of an open `if`.
+#[tactic(auto, using(std::proofs::lemmas::Grind::common_steps))]
+fn else_in(state: &Open, frame: Frame, done: Built<Statement>) -> Mem<Option<Mode>>
+    requires { spec_closed frame ≡ false }
+    ensures { IfOk result (λ r. Stepped state.now r (m.on_else parts_built (scope state.now) (under state.now frame) (statement_part done))) }
+{
+    match frame {
+        Frame::Statement(StatementFrame::Branch(at, before, place, test)) => {
+            let branches = parts::push_branch(before, place, test, done)?;
+            Ok(Some(Mode::Statement(StatementMode::AfterElse(at, branches))))
+        }
+        _ => Ok(None),
+    }
 }
 
 /// Ends the statements up to the nearest open `if`.
@@ -100,18 +147,10 @@ fn on_else(alloc: Global, state: &mut Open, done: Built<Statement>) -> Mem<Optio
 {
     let mut done = done;
     while let Some(frame) = state.pop() {
-        let Frame::Statement(frame) = frame else {
-            return Ok(None);
-        };
-        if is_passed(&frame) {
-            done = whole(alloc, state, frame, done)?;
-            continue;
+        if !is_closed(&frame) {
+            return else_in(state, frame, done);
         }
-        let StatementFrame::Branch(at, before, place, test) = frame else {
-            return Ok(None);
-        };
-        let branches = parts::push_branch(before, place, test, done)?;
-        return Ok(Some(Mode::Statement(StatementMode::AfterElse(at, branches))));
+        done = whole_in(alloc, state, frame, done)?;
     }
     Ok(None)
 }
@@ -121,7 +160,7 @@ fn with_stated(body: BodyFrame, done: Built<Statement>) -> Mem<Option<BodyFrame>
     ensures next { IfOk result (λ o. MatchOption o
         ((os : List Entry) (sc : Scope) (s : PartStack) (w : Word) → m.next_in parts_built (sc, body_in os body ∷ s, statement_part done) w ≡ None)
         (λ more. (os : List Entry) (sc : Scope) (s : PartStack) (w : Word) → m.next_in parts_built (sc, body_in os body ∷ s, statement_part done) w ≡ m.begin_part parts_built sc (body_in os more ∷ s) w)) }
-    ensures outside { IfOk result (λ o. MatchOption o Unit {0} (λ more. (os : List Entry) → behind os (body_frame more) ≡ behind os (body_frame body))) }
+    ensures outside { IfOk result (λ o. MatchOption o (Unit {0}) (λ more. (os : List Entry) → behind os (body_frame more) ≡ behind os (body_frame body))) }
 {
     match body {
         BodyFrame::Block(at, before) => {
@@ -209,6 +248,21 @@ fn ending(state: &mut Open, done: Built<Statement>, terminal: Terminal) -> Mem<O
     Ok(Some(Mode::Statement(StatementMode::Done(done))))
 }
 
+/// The first token of the statement behind an `else`.
+fn begin_else(
+    alloc: Global,
+    state: &mut Open,
+    ladder: Span,
+    branches: Built<Vec<Branch>>,
+    terminal: Terminal,
+    token: &Token,
+) -> Mem<Option<Mode>>
+    ensures { IfOk result (λ r. Stepped state.new r (m.statement parts_built (scope state.old) (InElse (branches_part branches) ∷ stack state.old) (word_of terminal token.now.text))) }
+{
+    state.push(Frame::Statement(StatementFrame::Else(ladder, branches)))?;
+    statement(alloc, state, terminal, token)
+}
+
 /// A token behind an `else`.
 fn after_else(
     alloc: Global,
@@ -220,13 +274,26 @@ fn after_else(
 ) -> Mem<Option<Mode>>
     ensures { IfOk result (λ r. Stepped state.new r (m.after_else parts_built (scope state.old) (stack state.old) (branches_part branches) (word_of terminal token.now.text))) }
 {
-    if matches!(terminal, Terminal::Keyword(Keyword::If)) {
+    if is_if(terminal) {
         return Ok(Some(Mode::Statement(StatementMode::Opening(Aim::Test(
             ladder, branches, token.span,
         )))));
     }
-    state.push(Frame::Statement(StatementFrame::Else(ladder, branches)))?;
-    statement(alloc, state, terminal, token)
+    begin_else(alloc, state, ladder, branches, terminal, token)
+}
+
+/// The first token of the value that is returned.
+fn begin_value(
+    alloc: Global,
+    state: &mut Open,
+    at: Span,
+    terminal: Terminal,
+    token: &Token,
+) -> Mem<Option<Mode>>
+    ensures { IfOk result (λ r. Stepped state.new r (m.begin parts_built (scope state.old) (InReturn ∷ stack state.old) (word_of terminal token.now.text))) }
+{
+    state.push(Frame::Clause(ClauseFrame::Return(at)))?;
+    begin(alloc, state, terminal, token)
 }
 
 /// A token behind `return`.
@@ -243,8 +310,7 @@ fn returning(
         let done = parts::return_value(alloc, at, None)?;
         return Ok(Some(Mode::Statement(StatementMode::Done(done))));
     }
-    state.push(Frame::Clause(ClauseFrame::Return(at)))?;
-    begin(alloc, state, terminal, token)
+    begin_value(alloc, state, at, terminal, token)
 }
 
 /// A token where the brace of a `switch` is wanted.
@@ -312,6 +378,21 @@ fn no_start(alloc: Global, state: &mut Open) -> Mem<Option<Mode>>
     Ok(Some(Mode::Statement(StatementMode::ForTesting)))
 }
 
+/// The first token of the first part of a `for`.
+fn begin_start(
+    alloc: Global,
+    state: &mut Open,
+    terminal: Terminal,
+    token: &Token,
+) -> Mem<Option<Mode>>
+    ensures { IfOk result (λ r. Stepped state.new r (if spec_begins (scope state.old) (word_of terminal token.now.text ∷ []) then m.specs_step parts_built (scope state.old) (DeclSpecs ∷ stack state.old) parts_built.no_specs (word_of terminal token.now.text) else m.begin parts_built (scope state.old) (stack state.old) (word_of terminal token.now.text))) }
+{
+    if begins_specs(state, terminal, token) {
+        return begin_declaration(alloc, state, terminal, token);
+    }
+    begin(alloc, state, terminal, token)
+}
+
 /// A token where the first part of a `for` begins.
 fn for_starting(
     alloc: Global,
@@ -321,20 +402,13 @@ fn for_starting(
 ) -> Mem<Option<Mode>>
     ensures { IfOk result (λ r. Stepped state.new r (m.for_starting parts_built (scope state.old) (stack state.old) (word_of terminal token.now.text))) }
 {
-    match terminal {
-        Terminal::Mark(Mark::Semicolon) => no_start(alloc, state),
-        Terminal::Keyword(Keyword::StaticAssert) => Ok(Some(Mode::Statement(StatementMode::Opening(
-            Aim::Assert(token.span),
-        )))),
-        _ => {
-            if !begins_specs(state, terminal, token) {
-                return begin(alloc, state, terminal, token);
-            }
-            state.push(Frame::Specs(SpecsFrame::Declaration))?;
-            let none = parts::no_specs(alloc, token.span);
-            specs_step(alloc, state, none, terminal, token)
-        }
+    if is_assertion(terminal) {
+        return Ok(Some(Mode::Statement(StatementMode::Opening(Aim::Assert(token.span)))));
     }
+    if is_semicolon(terminal) {
+        return no_start(alloc, state);
+    }
+    begin_start(alloc, state, terminal, token)
 }
 
 /// A token where the test of a `for` begins.

@@ -1,20 +1,23 @@
 //! Initialisers, token by token (C11 6.7.9).
 
-ghost use Rattle.std.specs.Prelude.{◌≡◌, IfOk};
+ghost use Rattle.std.specs.Prelude.{◌≡◌, ◌∷◌, IfOk, Some};
 ghost use Rattle.ct_open.specs.Code.{Stepped, stack, scope, init_mode};
+ghost use Rattle.ct_open.specs.Frames.{InBraces, InItem, InPlace, Pointed, Want};
 ghost use Rattle.ct_open.specs.Steps as m;
 ghost use Rattle.ct_open.specs.Terminals.{word_of};
+ghost use Rattle.ct_parts.specs.Algebra.{AtNext};
 ghost use Rattle.ct_parts.specs.Parts.{parts_built};
-ghost use Rattle.ct_parts.specs.Views.{aimed_part, initialiser_part};
+ghost use Rattle.ct_parts.specs.Views.{aimed_part, initialiser_part, initialisers_part};
 ghost use Rattle.ct_syntax.specs.Words.{Text};
 ghost use Rattle.ct_syntax.specs.declared.words.Mark.TheVariants.{Comma as comma, Semicolon as semicolon, CloseBrace as close_brace};
 
+use crate::which::{is_dot, is_open_bracket};
 use ct_base::{Bytes, Mem, Span, Token};
 use ct_build as parts;
 use ct_open::{Frame, InitMode, ListFrame, Mode, Open, Terminal, ValueFrame, ValueMode};
 use ct_parts::{Aimed, Built};
 use ct_read::{begin, declarator_started, item_ended};
-use ct_syntax::{AssignOp, Initialiser, Mark, MemberOp};
+use ct_syntax::{AssignOp, Initialiser, InitialiserItem, Mark};
 use std::alloc::Global;
 
 /// A token where an initialiser is wanted.
@@ -99,6 +102,67 @@ fn have_init(
     }
 }
 
+/// The first token of an item that is for what comes next.
+fn begin_item(
+    alloc: Global,
+    state: &mut Open,
+    at: Span,
+    items: Built<Vec<InitialiserItem>>,
+    terminal: Terminal,
+    token: &Token,
+) -> Mem<Option<Mode>>
+    ensures { IfOk result (λ r. Stepped state.new r (m.want_init parts_built (scope state.old) (InItem (initialisers_part items) AtNext ∷ stack state.old) (word_of terminal token.now.text))) }
+{
+    state.push(Frame::Value(ValueFrame::Item(at, items, token.span, Aimed::Next)))?;
+    want_init(alloc, state, terminal, token)
+}
+
+/// The dot of an item.
+fn dotted_item(
+    state: &mut Open,
+    at: Span,
+    items: Built<Vec<InitialiserItem>>,
+    dot: Span,
+) -> Mem<Option<Mode>>
+    ensures { IfOk result (λ r. Stepped state.new r (Some (scope state.old, InBraces (initialisers_part items) ∷ stack state.old, Pointed))) }
+{
+    state.push(Frame::List(ListFrame::Braces(at, items)))?;
+    Ok(Some(Mode::Init(InitMode::Pointed(dot))))
+}
+
+/// The bracket of an item.
+fn indexed_item(
+    state: &mut Open,
+    at: Span,
+    items: Built<Vec<InitialiserItem>>,
+    bracket: Span,
+) -> Mem<Option<Mode>>
+    ensures { IfOk result (λ r. Stepped state.new r (Some (scope state.old, InPlace (initialisers_part items) ∷ stack state.old, Want))) }
+{
+    state.push(Frame::Value(ValueFrame::Place(at, items, bracket)))?;
+    Ok(Some(Mode::Value(ValueMode::Want)))
+}
+
+/// A token where an item begins, with the braces taken off.
+fn item_in(
+    alloc: Global,
+    state: &mut Open,
+    at: Span,
+    items: Built<Vec<InitialiserItem>>,
+    terminal: Terminal,
+    token: &Token,
+) -> Mem<Option<Mode>>
+    ensures { IfOk result (λ r. Stepped state.new r (m.item parts_built (scope state.old) (InBraces (initialisers_part items) ∷ stack state.old) (word_of terminal token.now.text))) }
+{
+    if is_dot(terminal) {
+        return dotted_item(state, at, items, token.span);
+    }
+    if is_open_bracket(terminal) {
+        return indexed_item(state, at, items, token.span);
+    }
+    begin_item(alloc, state, at, items, terminal, token)
+}
+
 /// A token where an item in braces begins.
 fn item(alloc: Global, state: &mut Open, terminal: Terminal, token: &Token) -> Mem<Option<Mode>>
     ensures { IfOk result (λ r. Stepped state.new r (m.item parts_built (scope state.old) (stack state.old) (word_of terminal token.now.text))) }
@@ -109,20 +173,7 @@ fn item(alloc: Global, state: &mut Open, terminal: Terminal, token: &Token) -> M
     let Frame::List(ListFrame::Braces(at, items)) = frame else {
         return Ok(None);
     };
-    match terminal {
-        Terminal::Mark(Mark::Member(MemberOp::Dot)) => {
-            state.push(Frame::List(ListFrame::Braces(at, items)))?;
-            Ok(Some(Mode::Init(InitMode::Pointed(token.span))))
-        }
-        Terminal::Mark(Mark::OpenBracket) => {
-            state.push(Frame::Value(ValueFrame::Place(at, items, token.span)))?;
-            Ok(Some(Mode::Value(ValueMode::Want)))
-        }
-        _ => {
-            state.push(Frame::Value(ValueFrame::Item(at, items, token.span, Aimed::Next)))?;
-            want_init(alloc, state, terminal, token)
-        }
-    }
+    item_in(alloc, state, at, items, terminal, token)
 }
 
 /// The brace that ends a list of items, behind a comma or not.

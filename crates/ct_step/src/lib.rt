@@ -6,5 +6,6 @@ mod endings;
 mod initialisers;
 mod statements;
 mod steps;
+mod which;
 
 pub use steps::step;

@@ -1,8 +1,8 @@
 //! Statements and bodies, where they begin (C11 6.8).
 
-ghost use Rattle.std.specs.Prelude.{◌≡◌, List, ◌∷◌, IfOk};
+ghost use Rattle.std.specs.Prelude.{◌≡◌, List, [], ◌∷◌, if◌then◌else◌, IfOk};
 ghost use Rattle.ct_open.specs.Code.{Stepped, stack, scope, under, aim_of, frame_of, behind};
-ghost use Rattle.ct_open.specs.Frames.{InFunction};
+ghost use Rattle.ct_open.specs.Frames.{InFunction, InRun, InUnit, DeclSpecs};
 ghost use Rattle.ct_open.specs.Steps as m;
 ghost use Rattle.ct_open.specs.Terminals.{word_of};
 ghost use Rattle.ct_open.specs.declared.entries.Entry.{Entry};
@@ -10,8 +10,10 @@ ghost use Rattle.ct_open.specs.declared.frames.BodyFrame.TheVariants.{Switch as 
 ghost use Rattle.ct_open.specs.declared.frames.Frame.TheVariants.{Body as body_frame, Clause as clause_frame};
 ghost use Rattle.ct_parts.specs.Parts.{parts_built};
 ghost use Rattle.ct_parts.specs.Views.{items_part, specs_part, declarator_part, body_part};
+ghost use Rattle.ct_syntax.specs.Grammar.{begins_specs as spec_begins};
 ghost use Rattle.ct_syntax.specs.Words.{Text};
 
+use crate::which::{is_assertion, is_close_brace, is_label};
 use ct_base::{Mem, Span, Token};
 use ct_build as parts;
 use ct_open::{
@@ -48,6 +50,33 @@ pub fn opening(state: &mut Open, aim: Aim, terminal: Terminal) -> Mem<Option<Mod
     Ok(Some(Mode::Value(ValueMode::Want)))
 }
 
+/// The first token of a statement that is an expression.
+fn begin_run(
+    alloc: Global,
+    state: &mut Open,
+    terminal: Terminal,
+    token: &Token,
+) -> Mem<Option<Mode>>
+    ensures { IfOk result (λ r. Stepped state.new r (m.begin parts_built (scope state.old) (InRun ∷ stack state.old) (word_of terminal token.now.text))) }
+{
+    state.push(Frame::Clause(ClauseFrame::Run(token.span)))?;
+    begin(alloc, state, terminal, token)
+}
+
+/// The first token of a declaration.
+pub fn begin_declaration(
+    alloc: Global,
+    state: &mut Open,
+    terminal: Terminal,
+    token: &Token,
+) -> Mem<Option<Mode>>
+    ensures { IfOk result (λ r. Stepped state.new r (m.specs_step parts_built (scope state.old) (DeclSpecs ∷ stack state.old) parts_built.no_specs (word_of terminal token.now.text))) }
+{
+    state.push(Frame::Specs(SpecsFrame::Declaration))?;
+    let none = parts::no_specs(alloc, token.span);
+    specs_step(alloc, state, none, terminal, token)
+}
+
 /// A mark where a statement begins.
 fn statement_mark(alloc: Global, state: &mut Open, mark: Mark, token: &Token) -> Mem<Option<Mode>>
     ensures { IfOk result (λ r. Stepped state.new r (m.statement_mark parts_built (scope state.old) (stack state.old) mark)) }
@@ -62,10 +91,7 @@ fn statement_mark(alloc: Global, state: &mut Open, mark: Mark, token: &Token) ->
         Mark::Semicolon => {
             Ok(Some(Mode::Statement(StatementMode::Done(parts::run(alloc, token.span, None)?))))
         }
-        _ => {
-            state.push(Frame::Clause(ClauseFrame::Run(token.span)))?;
-            begin(alloc, state, Terminal::Mark(mark), token)
-        }
+        _ => begin_run(alloc, state, Terminal::Mark(mark), token),
     }
 }
 
@@ -99,10 +125,7 @@ fn statement_key(
             Ok(Some(Mode::Statement(StatementMode::Ending(parts::continue_statement(alloc, at)?))))
         }
         Keyword::Return => Ok(Some(Mode::Statement(StatementMode::Returning(at)))),
-        _ => {
-            state.push(Frame::Clause(ClauseFrame::Run(at)))?;
-            begin(alloc, state, Terminal::Keyword(keyword), token)
-        }
+        _ => begin_run(alloc, state, Terminal::Keyword(keyword), token),
     }
 }
 
@@ -118,10 +141,7 @@ pub fn statement(
     match terminal {
         Terminal::Mark(mark) => statement_mark(alloc, state, mark, token),
         Terminal::Keyword(keyword) => statement_key(alloc, state, keyword, token),
-        _ => {
-            state.push(Frame::Clause(ClauseFrame::Run(token.span)))?;
-            begin(alloc, state, terminal, token)
-        }
+        _ => begin_run(alloc, state, terminal, token),
     }
 }
 
@@ -175,6 +195,21 @@ fn close_body(alloc: Global, state: &mut Open) -> Mem<Option<Mode>>
     }
 }
 
+/// The first token of a declaration or a statement in braces.
+fn begin_inside(
+    alloc: Global,
+    state: &mut Open,
+    terminal: Terminal,
+    token: &Token,
+) -> Mem<Option<Mode>>
+    ensures { IfOk result (λ r. Stepped state.new r (if spec_begins (scope state.old) (word_of terminal token.now.text ∷ []) then m.specs_step parts_built (scope state.old) (DeclSpecs ∷ stack state.old) parts_built.no_specs (word_of terminal token.now.text) else m.statement parts_built (scope state.old) (stack state.old) (word_of terminal token.now.text))) }
+{
+    if begins_specs(state, terminal, token) {
+        return begin_declaration(alloc, state, terminal, token);
+    }
+    statement(alloc, state, terminal, token)
+}
+
 /// A token where a declaration or a statement in braces, or the closing brace, is wanted.
 fn block_part(
     alloc: Global,
@@ -184,20 +219,58 @@ fn block_part(
 ) -> Mem<Option<Mode>>
     ensures { IfOk result (λ r. Stepped state.new r (m.block_part parts_built (scope state.old) (stack state.old) (word_of terminal token.now.text))) }
 {
-    match terminal {
-        Terminal::Mark(Mark::CloseBrace) => close_body(alloc, state),
-        Terminal::Keyword(Keyword::StaticAssert) => Ok(Some(Mode::Statement(StatementMode::Opening(
-            Aim::Assert(token.span),
-        )))),
-        _ => {
-            if !begins_specs(state, terminal, token) {
-                return statement(alloc, state, terminal, token);
-            }
-            state.push(Frame::Specs(SpecsFrame::Declaration))?;
-            let none = parts::no_specs(alloc, token.span);
-            specs_step(alloc, state, none, terminal, token)
-        }
+    if is_assertion(terminal) {
+        return Ok(Some(Mode::Statement(StatementMode::Opening(Aim::Assert(token.span)))));
     }
+    if is_close_brace(terminal) {
+        return close_body(alloc, state);
+    }
+    begin_inside(alloc, state, terminal, token)
+}
+
+/// A label.
+fn label(state: &mut Open, terminal: Terminal, at: Span) -> Mem<Option<Mode>>
+    ensures { IfOk result (λ r. (text : Text) → Stepped state.new r (m.label parts_built (scope state.old) (stack state.old) (word_of terminal text))) }
+{
+    match terminal {
+        Terminal::Keyword(Keyword::Case) => {
+            state.push(Frame::Clause(ClauseFrame::Case(at)))?;
+            Ok(Some(Mode::Value(ValueMode::Want)))
+        }
+        Terminal::Keyword(Keyword::Default) => {
+            Ok(Some(Mode::Statement(StatementMode::DefaultColon(at))))
+        }
+        _ => Ok(None),
+    }
+}
+
+/// A label, or a token where a declaration or a statement in braces, or the closing brace, is wanted.
+fn labelled_part(
+    alloc: Global,
+    state: &mut Open,
+    terminal: Terminal,
+    token: &Token,
+) -> Mem<Option<Mode>>
+    ensures { IfOk result (λ r. Stepped state.new r (if m.is_label (word_of terminal token.now.text) then m.label parts_built (scope state.old) (stack state.old) (word_of terminal token.now.text) else m.block_part parts_built (scope state.old) (stack state.old) (word_of terminal token.now.text))) }
+{
+    if is_label(terminal) {
+        return label(state, terminal, token.span);
+    }
+    block_part(alloc, state, terminal, token)
+}
+
+/// A token in a body, which no label begins.
+fn part_in(
+    alloc: Global,
+    state: &mut Open,
+    body: BodyFrame,
+    terminal: Terminal,
+    token: &Token,
+) -> Mem<Option<Mode>>
+    ensures { IfOk result (λ r. Stepped state.new r (m.block_part parts_built (scope state.old) (under state.old (body_frame body)) (word_of terminal token.now.text))) }
+{
+    state.push(Frame::Body(body))?;
+    block_part(alloc, state, terminal, token)
 }
 
 /// A token in the braces of a `switch`.
@@ -214,16 +287,21 @@ fn switch_part(
     ensures { IfOk result (λ r. Stepped state.new r (m.begin_part parts_built (scope state.old) (under state.old (body_frame (switch at value brace body))) (word_of terminal token.now.text))) }
 {
     state.push(Frame::Body(BodyFrame::Switch(at, value, brace, body)))?;
-    match terminal {
-        Terminal::Keyword(Keyword::Case) => {
-            state.push(Frame::Clause(ClauseFrame::Case(token.span)))?;
-            Ok(Some(Mode::Value(ValueMode::Want)))
-        }
-        Terminal::Keyword(Keyword::Default) => {
-            Ok(Some(Mode::Statement(StatementMode::DefaultColon(token.span))))
-        }
-        _ => block_part(alloc, state, terminal, token),
-    }
+    labelled_part(alloc, state, terminal, token)
+}
+
+/// The first token of a declaration or a definition at file scope.
+fn begin_outside(
+    alloc: Global,
+    state: &mut Open,
+    items: Built<Vec<Item>>,
+    terminal: Terminal,
+    token: &Token,
+) -> Mem<Option<Mode>>
+    ensures { IfOk result (λ r. Stepped state.new r (m.specs_step parts_built (scope state.old) (DeclSpecs ∷ InUnit (items_part items) ∷ stack state.old) parts_built.no_specs (word_of terminal token.now.text))) }
+{
+    state.push(Frame::Body(BodyFrame::Unit(items)))?;
+    begin_declaration(alloc, state, terminal, token)
 }
 
 /// A token at file scope.
@@ -236,18 +314,18 @@ fn file_part(
 ) -> Mem<Option<Mode>>
     ensures { IfOk result (λ r. Stepped state.new r (m.file_part parts_built (scope state.old) (items_part items) (stack state.old) (word_of terminal token.now.text))) }
 {
-    if matches!(terminal, Terminal::Mark(Mark::Semicolon)) {
-        let items = parts::push_lone(items, token.span)?;
-        state.push(Frame::Body(BodyFrame::Unit(items)))?;
-        return Ok(Some(Mode::Statement(StatementMode::Begin)));
+    match terminal {
+        Terminal::Mark(Mark::Semicolon) => {
+            let items = parts::push_lone(items, token.span)?;
+            state.push(Frame::Body(BodyFrame::Unit(items)))?;
+            Ok(Some(Mode::Statement(StatementMode::Begin)))
+        }
+        Terminal::Keyword(Keyword::StaticAssert) => {
+            state.push(Frame::Body(BodyFrame::Unit(items)))?;
+            Ok(Some(Mode::Statement(StatementMode::Opening(Aim::Assert(token.span)))))
+        }
+        _ => begin_outside(alloc, state, items, terminal, token),
     }
-    state.push(Frame::Body(BodyFrame::Unit(items)))?;
-    if matches!(terminal, Terminal::Keyword(Keyword::StaticAssert)) {
-        return Ok(Some(Mode::Statement(StatementMode::Opening(Aim::Assert(token.span)))));
-    }
-    state.push(Frame::Specs(SpecsFrame::Declaration))?;
-    let none = parts::no_specs(alloc, token.span);
-    specs_step(alloc, state, none, terminal, token)
 }
 
 /// A token in a body.
@@ -266,12 +344,11 @@ fn body_part(
             alloc, state, at, value, brace, body, terminal, token,
         ),
         BodyFrame::Block(at, parts) => {
-            state.push(Frame::Body(BodyFrame::Block(at, parts)))?;
-            block_part(alloc, state, terminal, token)
+            part_in(alloc, state, BodyFrame::Block(at, parts), terminal, token)
         }
         BodyFrame::Function(specs, declarator, brace, parts) => {
-            state.push(Frame::Body(BodyFrame::Function(specs, declarator, brace, parts)))?;
-            block_part(alloc, state, terminal, token)
+            let body = BodyFrame::Function(specs, declarator, brace, parts);
+            part_in(alloc, state, body, terminal, token)
         }
     }
 }

@@ -2,7 +2,7 @@ use Rattle.std.proofs.Common.{◌≡◌, ◌≤◌, ◌-◌, [], length, map}
 use Rattle.ct_syntax.specs.UnitViews.{view_item}
 use Rattle.ct_open.specs.Code.{frames, scope}
 use Rattle.ct_parser.specs.Parses.{Progress}
-use Rattle.ct_parser.proofs.parse.parse.Given as goal
+use Rattle.ct_parser.proofs.reader.parse.Given as goal
 
 -- the tokens before the place are items, and nothing is open
 abbrev pub invariant-loop-place : goal.invariant-loop-place

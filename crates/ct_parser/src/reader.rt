@@ -38,8 +38,9 @@ fn with_item(
     if deep.is_some() {
         return Ok(deep);
     }
-    let Some(mut items) = built.tree else {
-        return Ok(passed(&built.reach).map(|kind| (place, kind)));
+    let Built { tree, reach } = built;
+    let Some(mut items) = tree else {
+        return Ok(passed(&reach).map(|kind| (place, kind)));
     };
     all.append(&mut items)?;
     Ok(None)
