@@ -4,8 +4,6 @@
 mod items;
 mod laws;
 mod reader;
-#[cfg(test)]
-mod tests;
 
 pub use laws::{no_tree, one_tree, one_unspelled};
 pub use reader::{SyntaxFault, parse};
