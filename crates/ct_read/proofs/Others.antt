@@ -1,5 +1,5 @@
 -- What a token does that is another mark than the one that a step looks for.
-use Rattle.std.proofs.Common.{◌≡◌, Bool, true, false, if◌then◌else◌, List, [], ◌∷◌, Option, Some, refl}
+use Rattle.std.proofs.Common.{◌≡◌, true, false, if◌then◌else◌, [], ◌∷◌, Some, refl}
 use Rattle.ct_syntax.specs.Words.{Text, Word, Sign}
 use Rattle.ct_syntax.specs.Scopes.{Scope}
 use Rattle.ct_syntax.specs.declared.words.Mark.{Mark}

@@ -1,5 +1,5 @@
 -- Each mark reaches back to some production.
-use Rattle.std.proofs.Common.{ℕ, ◌<◌, arith}
+use Rattle.std.proofs.Common.{◌<◌, arith}
 use Rattle.ct_base.specs.declared.operators.BinaryOp.TheVariants as b
 use Rattle.ct_syntax.specs.declared.words.InfixOp.{InfixOp}
 use Rattle.ct_syntax.specs.declared.words.InfixOp.TheVariants as i

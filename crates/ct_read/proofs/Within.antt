@@ -1,5 +1,5 @@
 -- A type behind an open parenthesis, by the production that the parenthesis stands in.
-use Rattle.std.proofs.Common.{◌≡◌, Bool, true, false, nat_lt, if◌then◌else◌, List, [], ◌∷◌, None, refl, sym, ap, ◌∙◌}
+use Rattle.std.proofs.Common.{◌≡◌, false, nat_lt, if◌then◌else◌, List, ◌∷◌, None, refl, sym, ap, ◌∙◌}
 use Rattle.ct_base.specs.declared.lexical.Span.{Span}
 use Rattle.ct_syntax.specs.Words.{Word}
 use Rattle.ct_syntax.specs.Scopes.{Scope}

@@ -1,5 +1,5 @@
 use Rattle.std.specs.Prelude.{IfOk}
-use Rattle.std.proofs.Common.{◌≡◌, sym, subst, ◌∙◌}
+use Rattle.std.proofs.Common.{sym, subst, ◌∙◌}
 use Rattle.ct_open.specs.Code.{PartStep, Stepped, scope, stack, kind_of}
 use Rattle.ct_read.proofs.Others.{wanted_open, wanted_other}
 use Rattle.ct_read.proofs.declarators.want_mark.Goals as goal

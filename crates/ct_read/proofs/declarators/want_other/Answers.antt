@@ -1,5 +1,5 @@
 use Rattle.std.specs.Prelude.{Option}
-use Rattle.std.proofs.Common.{◌≡◌, Bool, false, if◌then◌else◌, [], Some, sym, subst, ap, ◌∙◌}
+use Rattle.std.proofs.Common.{◌≡◌, Bool, if◌then◌else◌, [], Some, sym, subst, ap, ◌∙◌}
 use Rattle.std.proofs.lemmas.Result.{IfOk-weaker}
 use Rattle.ct_syntax.specs.Words.{Text, Sign}
 use Rattle.ct_parts.specs.Parts.{parts_built}

@@ -1,5 +1,5 @@
 use Rattle.std.specs.Prelude.{IfOk}
-use Rattle.std.proofs.Common.{◌≡◌, Some, sym, subst, ap, ◌∙◌}
+use Rattle.std.proofs.Common.{Some, sym, subst, ap, ◌∙◌}
 use Rattle.ct_parts.specs.Algebra.{decl}
 use Rattle.ct_parts.specs.Parts.{Part}
 use Rattle.ct_parts.specs.Views.{declarator_part}

@@ -1,5 +1,5 @@
 use Rattle.std.specs.Prelude.{IfOk}
-use Rattle.std.proofs.Common.{◌≡◌, sym, subst, ap, ◌∙◌}
+use Rattle.std.proofs.Common.{sym, subst, ap, ◌∙◌}
 use Rattle.ct_parts.specs.Parts.{parts_built}
 use Rattle.ct_parts.specs.Views.{specs_part}
 use Rattle.ct_open.specs.Steps as s

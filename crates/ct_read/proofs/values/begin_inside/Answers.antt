@@ -1,5 +1,5 @@
 use Rattle.std.specs.Prelude.{IfOk}
-use Rattle.std.proofs.Common.{◌≡◌, sym, subst}
+use Rattle.std.proofs.Common.{sym, subst}
 use Rattle.ct_open.specs.Code.{PartStep, Stepped, entries, frames, outside}
 use Rattle.ct_open.specs.Terminals.{word_of}
 use Rattle.ct_read.proofs.Within.{within_other, within_sizeof}
