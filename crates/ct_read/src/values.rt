@@ -179,26 +179,12 @@ fn comma_in_list(
             Ok(Some(Mode::Specs(SpecsMode::NextEnumerator)))
         }
         ValueFrame::Init(specs, before, declarator) => {
-            declarator_started(
-                state,
-                Mark::Comma,
-                specs,
-                before,
-                declarator,
-                parts::value_init(x)?,
-            )
+            let start = parts::value_init(x)?;
+            declarator_started(state, Mark::Comma, specs, before, declarator, start)
         }
         ValueFrame::Item(at, before, place, aim) => {
-            item_ended(
-                alloc,
-                state,
-                Mark::Comma,
-                at,
-                before,
-                place,
-                aim,
-                parts::value_init(x)?,
-            )
+            let start = parts::value_init(x)?;
+            item_ended(alloc, state, Mark::Comma, at, before, place, aim, start)
         }
         _ => Ok(None),
     }
