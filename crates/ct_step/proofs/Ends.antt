@@ -1,5 +1,5 @@
 -- Where the end of a statement ends nothing else.
-use Rattle.std.proofs.Common.{◌≡◌, true, false, List, [], ◌∷◌, None, refl}
+use Rattle.std.proofs.Common.{◌≡◌, false, List, [], ◌∷◌, refl}
 use Rattle.ct_syntax.specs.Scopes.{Scope}
 use Rattle.ct_parts.specs.Algebra.{stmt}
 use Rattle.ct_parts.specs.Parts.{Part, parts_built}
@@ -8,23 +8,15 @@ use Rattle.ct_open.specs.Steps as m
 use Rattle.ct_open.specs.declared.entries.Entry.{Entry}
 use Rattle.ct_open.specs.declared.frames.Frame.{Frame}
 use Rattle.ct_open.specs.declared.frames.Frame.TheVariants as f
-use Rattle.ct_open.specs.declared.frames.OperandFrame.{OperandFrame}
 use Rattle.ct_open.specs.declared.frames.OperandFrame.TheVariants as o
-use Rattle.ct_open.specs.declared.frames.ValueFrame.{ValueFrame}
 use Rattle.ct_open.specs.declared.frames.ValueFrame.TheVariants as v
-use Rattle.ct_open.specs.declared.frames.ClauseFrame.{ClauseFrame}
 use Rattle.ct_open.specs.declared.frames.ClauseFrame.TheVariants as c
-use Rattle.ct_open.specs.declared.frames.SpecsFrame.{SpecsFrame}
 use Rattle.ct_open.specs.declared.frames.SpecsFrame.TheVariants as s
-use Rattle.ct_open.specs.declared.frames.DeclaratorFrame.{DeclaratorFrame}
 use Rattle.ct_open.specs.declared.frames.DeclaratorFrame.TheVariants as d
-use Rattle.ct_open.specs.declared.frames.ListFrame.{ListFrame}
 use Rattle.ct_open.specs.declared.frames.ListFrame.TheVariants as l
-use Rattle.ct_open.specs.declared.frames.BodyFrame.{BodyFrame}
 use Rattle.ct_open.specs.declared.frames.BodyFrame.TheVariants as b
-use Rattle.ct_open.specs.declared.frames.StatementFrame.{StatementFrame}
 use Rattle.ct_open.specs.declared.frames.StatementFrame.TheVariants as t
-use Rattle.ct_step.specs.Ends.{is_ended, is_closed}
+use Rattle.ct_step.specs.Ends.{is_ended}
 
 pub ended_none : (os : List Entry) (fs : List Frame) (sc : Scope) (x : Part stmt) → fs ≡ [] → m.ended parts_built sc (stack_of os fs) x ≡ (sc, stack_of os fs, x)
 ended_none os [] sc x e = refl
