@@ -213,9 +213,18 @@ pub fn put_declarator(declarator: &Declarator, out: &mut String) -> Mem<()> {
             end(out)
         }
         Declarator::Pointer(_, qualifiers, inner) => put_pointer(qualifiers, inner, out),
-        Declarator::Array(_, inner, size) => put_array(inner, size, out),
+        Declarator::Array(_, inner, size) => {
+            begin("array", out)?;
+            put_declarator(inner, out)?;
+            put_size(size, out)?;
+            end(out)
+        }
         Declarator::Function(_, inner, form, parameters) => {
-            put_function(inner, *form, parameters, out)
+            begin("function", out)?;
+            put_declarator(inner, out)?;
+            put_parameters(parameters, out)?;
+            put_form(*form, out)?;
+            end(out)
         }
     }
 }
@@ -231,36 +240,31 @@ fn put_pointer(qualifiers: &Items<Qualifier>, inner: &Declarator, out: &mut Stri
     end(out)
 }
 
-/// Puts an array.
+/// Puts the size of an array, where it has one.
 #[cycle(expressions)]
-fn put_array(inner: &Declarator, size: &Option<Box<Expr>>, out: &mut String) -> Mem<()> {
-    begin("array", out)?;
-    put_declarator(inner, out)?;
-    if let Some(size) = size {
-        put_expression(size, out)?;
+fn put_size(size: &Option<Box<Expr>>, out: &mut String) -> Mem<()> {
+    match size {
+        Some(size) => put_expression(size, out),
+        None => Ok(()),
     }
-    end(out)
 }
 
-/// Puts a function, and how its parameter list is written.
+/// Puts how a parameter list is written.
+fn put_form(form: ParameterForm, out: &mut String) -> Mem<()> {
+    match form {
+        ParameterForm::Empty | ParameterForm::Fixed => Ok(()),
+        ParameterForm::Void => put("void", out),
+        ParameterForm::Variadic => put("...", out),
+    }
+}
+
+/// Puts parameters.
 #[cycle(expressions)]
-fn put_function(
-    inner: &Declarator,
-    form: ParameterForm,
-    parameters: &[Parameter],
-    out: &mut String,
-) -> Mem<()> {
-    begin("function", out)?;
-    put_declarator(inner, out)?;
+fn put_parameters(parameters: &[Parameter], out: &mut String) -> Mem<()> {
     for parameter in parameters {
         put_parameter(parameter, out)?;
     }
-    match form {
-        ParameterForm::Empty | ParameterForm::Fixed => {}
-        ParameterForm::Void => put("void", out)?,
-        ParameterForm::Variadic => put("...", out)?,
-    }
-    end(out)
+    Ok(())
 }
 
 /// Puts a parameter.

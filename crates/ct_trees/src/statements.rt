@@ -12,11 +12,16 @@ fn put_statement(statement: &Statement, out: &mut String) -> Mem<()> {
     match statement {
         Statement::Block(block) => put_block(block, out),
         Statement::Run(_, value) => put_with_value("run", value, out),
-        Statement::If(_, branches, last) => put_if(branches, last, out),
-        Statement::While(_, test, body) => put_while(test, body, out),
+        Statement::If(_, branches, last) => {
+            begin("if", out)?;
+            put_branches(branches, out)?;
+            put_last(last, out)?;
+            end(out)
+        }
+        Statement::While(_, test, body) => put_while(body, test, out),
         Statement::Do(_, body, test) => put_do(body, test, out),
-        Statement::For(_, start, test, step, body) => put_for(start, test, step, body, out),
-        Statement::Switch(_, value, block) => put_switch(value, block, out),
+        Statement::For(_, start, test, step, body) => put_for(body, start, test, step, out),
+        Statement::Switch(_, value, block) => put_switch(block, value, out),
         Statement::Break(_) => put("break", out),
         Statement::Continue(_) => put("continue", out),
         Statement::Return(_, value) => put_with_value("return", value, out),
@@ -65,19 +70,26 @@ fn put_block_item(item: &BlockItem, out: &mut String) -> Mem<()> {
     }
 }
 
-/// Puts an `if` with its branches.
+/// Puts the branches of an `if`.
 #[cycle(statements)]
-fn put_if(branches: &[Branch], last: &Option<Box<Statement>>, out: &mut String) -> Mem<()> {
-    begin("if", out)?;
+fn put_branches(branches: &[Branch], out: &mut String) -> Mem<()> {
     for branch in branches {
         put_branch(branch, out)?;
     }
-    if let Some(last) = last {
-        begin("else", out)?;
-        put_statement(last, out)?;
-        end(out)?;
+    Ok(())
+}
+
+/// Puts what stands behind a last `else`, where there is one.
+#[cycle(statements)]
+fn put_last(last: &Option<Box<Statement>>, out: &mut String) -> Mem<()> {
+    match last {
+        Some(last) => {
+            begin("else", out)?;
+            put_statement(last, out)?;
+            end(out)
+        }
+        None => Ok(()),
     }
-    end(out)
 }
 
 /// Puts a test and what is done where it holds.
@@ -90,7 +102,7 @@ fn put_branch(branch: &Branch, out: &mut String) -> Mem<()> {
 }
 
 #[cycle(statements)]
-fn put_while(test: &Expr, body: &Statement, out: &mut String) -> Mem<()> {
+fn put_while(body: &Statement, test: &Expr, out: &mut String) -> Mem<()> {
     begin("while", out)?;
     put_expression(test, out)?;
     put_statement(body, out)?;
@@ -107,10 +119,10 @@ fn put_do(body: &Statement, test: &Expr, out: &mut String) -> Mem<()> {
 
 #[cycle(statements)]
 fn put_for(
+    body: &Statement,
     start: &ForStart,
     test: &Option<Expr>,
     step: &Option<Expr>,
-    body: &Statement,
     out: &mut String,
 ) -> Mem<()> {
     begin("for", out)?;
@@ -130,7 +142,7 @@ fn put_start(start: &ForStart, out: &mut String) -> Mem<()> {
 }
 
 #[cycle(statements)]
-fn put_switch(value: &Expr, block: &Block, out: &mut String) -> Mem<()> {
+fn put_switch(block: &Block, value: &Expr, out: &mut String) -> Mem<()> {
     begin("switch", out)?;
     put_expression(value, out)?;
     put_block(block, out)?;
