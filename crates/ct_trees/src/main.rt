@@ -5,6 +5,7 @@ mod declarations;
 mod expressions;
 mod items;
 mod outcome;
+mod places;
 mod reader;
 mod statements;
 mod words;

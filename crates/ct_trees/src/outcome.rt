@@ -1,6 +1,7 @@
 //! What the parser makes of a text, as it is printed.
 
 use crate::items::push_item;
+use crate::places::push_places;
 use ct_base::{Fail, LimitKind, Mem, OutOfMemory, Token, TokenKind};
 use ct_parser::{SyntaxFault, parse};
 use ct_print::print;
@@ -13,6 +14,8 @@ use std::alloc::Global;
 pub enum Shown {
     /// The outline of its tree.
     Outline,
+    /// The lines of its declarations, and of the statements in its functions.
+    Places,
     /// The text in which its tree is printed.
     Text,
     /// How many external declarations it has.
@@ -23,6 +26,7 @@ impl Shown {
     /// What is printed, by its name.
     pub fn named(name: &str) -> Shown {
         match name {
+            "places" => Shown::Places,
             "text" => Shown::Text,
             "count" => Shown::Count,
             _ => Shown::Outline,
@@ -69,6 +73,7 @@ pub fn push_outcome(alloc: Global, shown: Shown, text: &[u8], out: &mut String) 
 fn push_shown(alloc: Global, shown: Shown, tree: &Tree, out: &mut String) -> Mem<()> {
     match shown {
         Shown::Outline => push_tree(tree, out),
+        Shown::Places => push_places(alloc, tree, out),
         Shown::Text => push_printed(alloc, tree, out),
         Shown::Count => {
             let text = format!(in alloc; " {}", tree.items.len())?;

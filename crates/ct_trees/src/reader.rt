@@ -6,7 +6,7 @@ use std::alloc::Global;
 use std::mem;
 
 /// What reads texts line by line. `== NAME` begins a text, `show WHAT` says what is printed (`outline`,
-/// `text` or `count`), and `times NUMBER TEXT` stands for a text as often as that.
+/// `places`, `text` or `count`), and `times NUMBER TEXT` stands for a text as often as that.
 #[derive(Drop)]
 pub struct TextReader {
     alloc: Global,
