@@ -45,8 +45,8 @@ fn is_among(text: &[u8], words: &[&[u8]]) -> bool
     words.iter().any(|word| text == *word)
 }
 
-/// Whether a name is a keyword that is left out.
-fn is_left_out_word(text: &[u8]) -> bool
+/// Whether a name is a keyword that is left out of the language, or `__func__`.
+pub fn is_left_out_word(text: &[u8]) -> bool
     ensures { result ≡ is_left_out text.now }
 {
     is_among(text, &LEFT_OUT)

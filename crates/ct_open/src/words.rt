@@ -1,12 +1,13 @@
 //! What the grammar reads of a token.
 
 ghost use Rattle.std.specs.Prelude.{◌≡◌};
-ghost use Rattle.ct_syntax.specs.Words.{mark_text, keyword_text, mark_of, keyword_of, is_left_out, word};
+ghost use Rattle.ct_syntax.specs.Words.{mark_text, keyword_text, mark_of, keyword_of, word};
 ghost use Rattle.ct_syntax.specs.Words as spec;
 ghost use Rattle.ct_base.specs.declared.lexical.TokenKind.TheVariants.{Name as spec_name, Punct as spec_punct};
-ghost use Rattle.ct_open.specs.Terminals.{word_of, infix_text, assign_text, spec_text, left_out_text, left_out_of};
+ghost use Rattle.ct_open.specs.Terminals.{word_of, infix_text, assign_text, spec_text};
 
 use ct_base::{BinaryOp, Token, TokenKind};
+use ct_left_out::is_left_out_word;
 use ct_syntax::{AssignOp, InfixOp, Keyword, Mark, MemberOp, SpecWord, StepOp};
 
 /// What a token is for the grammar. The text of a name, a constant or a string literal stays with the token.
@@ -225,72 +226,6 @@ const KEYWORDS: [Keyword; 32] = [
     Keyword::Return,
 ];
 
-/// A word that is left out of the language.
-#[derive(Clone, Copy, Debug, PartialEq, Eq)]
-enum LeftOut {
-    Float,
-    Double,
-    Complex,
-    Imaginary,
-    Union,
-    Goto,
-    Generic,
-    Atomic,
-    ThreadLocal,
-    Alignas,
-    Alignof,
-    Noreturn,
-    Asm,
-    AsmBefore,
-    AsmAround,
-    Attribute,
-    FunctionName,
-}
-
-fn left_out_bytes(word: LeftOut) -> &'static [u8]
-    ensures { result.now ≡ left_out_text word }
-{
-    match word {
-        LeftOut::Float => b"float",
-        LeftOut::Double => b"double",
-        LeftOut::Complex => b"_Complex",
-        LeftOut::Imaginary => b"_Imaginary",
-        LeftOut::Union => b"union",
-        LeftOut::Goto => b"goto",
-        LeftOut::Generic => b"_Generic",
-        LeftOut::Atomic => b"_Atomic",
-        LeftOut::ThreadLocal => b"_Thread_local",
-        LeftOut::Alignas => b"_Alignas",
-        LeftOut::Alignof => b"_Alignof",
-        LeftOut::Noreturn => b"_Noreturn",
-        LeftOut::Asm => b"asm",
-        LeftOut::AsmBefore => b"__asm",
-        LeftOut::AsmAround => b"__asm__",
-        LeftOut::Attribute => b"__attribute__",
-        LeftOut::FunctionName => b"__func__",
-    }
-}
-
-const LEFT_OUT: [LeftOut; 17] = [
-    LeftOut::Float,
-    LeftOut::Double,
-    LeftOut::Complex,
-    LeftOut::Imaginary,
-    LeftOut::Union,
-    LeftOut::Goto,
-    LeftOut::Generic,
-    LeftOut::Atomic,
-    LeftOut::ThreadLocal,
-    LeftOut::Alignas,
-    LeftOut::Alignof,
-    LeftOut::Noreturn,
-    LeftOut::Asm,
-    LeftOut::AsmBefore,
-    LeftOut::AsmAround,
-    LeftOut::Attribute,
-    LeftOut::FunctionName,
-];
-
 /// The mark that a text spells.
 fn mark_spelled(text: &[u8]) -> Option<Mark>
     ensures { result ≡ mark_of text.now }
@@ -306,23 +241,6 @@ fn keyword_spelled(text: &[u8]) -> Option<Keyword>
         .iter()
         .copied()
         .find(|keyword| text == keyword_bytes(*keyword))
-}
-
-fn left_out_spelled(text: &[u8]) -> Option<LeftOut>
-    ensures { result ≡ left_out_of text.now }
-{
-    LEFT_OUT
-        .iter()
-        .copied()
-        .find(|word| text == left_out_bytes(*word))
-}
-
-/// Whether a name is a word that is left out of the language.
-#[tactic(auto, using(crate::proofs::LeftOut::left_out_found))]
-fn is_left_out_word(text: &[u8]) -> bool
-    ensures { result ≡ is_left_out text.now }
-{
-    left_out_spelled(text).is_some()
 }
 
 fn name_terminal(text: &[u8]) -> Terminal
