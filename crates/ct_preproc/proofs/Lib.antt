@@ -10,3 +10,13 @@ mod OneMeaning
 mod OneReading
 mod OneDirective
 mod OneFile
+mod StepsTo
+mod Continuing
+mod EmptyText
+mod KindSteps
+mod KindAnswers
+mod Skipping
+mod Grouping
+mod Tracking
+mod Balance
+mod ByGroups

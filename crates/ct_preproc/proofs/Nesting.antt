@@ -15,7 +15,8 @@ use Rattle.ct_directive.specs.declared.search.Target.{Target}
 use Rattle.ct_preproc.specs.declared.state.State.{State}
 use Rattle.ct_preproc.specs.declared.state.Place.{Place}
 use Rattle.ct_preproc.specs.declared.reading.Reading.{Reading}
-use Rattle.ct_preproc.specs.Files.{Closes, Enters, Included, ReadsLine, ReadsLines, ReadsTarget}
+use Rattle.ct_preproc.specs.Files.{Enters, Included, ReadsTarget}
+use Rattle.ct_preproc.specs.Steps.{Closes, StepsLine, StepsLines}
 use Rattle.ct_directive.specs.Headers.{BuiltIn}
 use Rattle.ct_preproc.proofs.Stopping.{on_stopped}
 use Rattle.ct_preproc.specs.Reading.{IsFault, fault_at}
@@ -33,22 +34,22 @@ on_found Means target (Err OutOfMemory) Missing Found means found = found
 module _ (limit : ℕ) (Enters : Place → ℕ → Header → State → Result State PreFault → Type 0) (place : Place) where
   -- the lines of a file are read behind its next one
   pub reads_on : (reading next : Reading) (line : List Token) (lines : List (List Token)) (Whole : Result State PreFault → Type 0)
-      → ((answer : Result State PreFault) → ReadsLines limit Enters place reading (line ∷ lines) answer → Whole answer)
-      → ReadsLine limit Enters place reading line (Ok next)
-      → (answer : Result State PreFault) → ReadsLines limit Enters place next lines answer → Whole answer
+      → ((answer : Result State PreFault) → StepsLines limit Enters place reading (line ∷ lines) answer → Whole answer)
+      → StepsLine limit Enters place reading line (Ok next)
+      → (answer : Result State PreFault) → StepsLines limit Enters place next lines answer → Whole answer
   reads_on reading next line lines Whole whole does answer behind = whole answer (Ok next, does, behind)
 
   -- a line that is refused ends it
   pub reads_stopped : (r : Result State (Fail PreFault)) (reading : Reading) (line : List Token) (lines : List (List Token)) (Whole : Result State PreFault → Type 0) (fail : Fail PreFault)
-      → ((answer : Result State PreFault) → ReadsLines limit Enters place reading (line ∷ lines) answer → Whole answer)
-      → r ≡ Err fail → OnAnswer {T = Reading} {F = PreFault} (Err fail) (ReadsLine limit Enters place reading line) → OnAnswer r Whole
+      → ((answer : Result State PreFault) → StepsLines limit Enters place reading (line ∷ lines) answer → Whole answer)
+      → r ≡ Err fail → OnAnswer {T = Reading} {F = PreFault} (Err fail) (StepsLine limit Enters place reading line) → OnAnswer r Whole
   reads_stopped r reading line lines Whole fail whole passed does =
       subst (λ (r : Result State (Fail PreFault)). OnAnswer r Whole) (sym passed)
-      (on_stopped fail (ReadsLine limit Enters place reading line) (λ answer next. ReadsLines limit Enters place next lines answer) Whole does whole)
+      (on_stopped fail (StepsLine limit Enters place reading line) (λ answer next. StepsLines limit Enters place next lines answer) Whole does whole)
 
   -- behind the last line the file ends
   pub reads_end : (reading : Reading) (lines : List (List Token)) (Whole : Result State PreFault → Type 0) (r : Result State (Fail PreFault))
-      → ((answer : Result State PreFault) → ReadsLines limit Enters place reading lines answer → Whole answer)
+      → ((answer : Result State PreFault) → StepsLines limit Enters place reading lines answer → Whole answer)
       → length lines ≡ 0 → OnAnswer r (Closes place limit reading) → OnAnswer r Whole
   reads_end reading [] Whole (Ok state) whole none closes = whole (Ok state) closes
   reads_end reading [] Whole (Err (Fault fault)) whole none closes = whole (Err fault) closes

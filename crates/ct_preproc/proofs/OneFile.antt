@@ -1,6 +1,7 @@
 -- A file has one unit or one first refusal.
-use Rattle.std.proofs.Common.{◌≡◌, ℕ, zero, suc, Bool, true, false, List, [], ◌∷◌, Option, Some, sym, subst, ◌∙◌}
+use Rattle.std.proofs.Common.{◌≡◌, ℕ, zero, suc, Bool, true, false, List, [], ◌∷◌, ◌++◌, Option, Some, sym, subst, ◌∙◌}
 use Rattle.std.specs.Prelude.{Result, Ok, Err, MatchOption}
+use Rattle.std.specs.Bool.{MatchBool}
 use Rattle.std.specs.List.{list_any}
 use Rattle.std.specs.Str.{bytes_eq}
 use Rattle.ct_base.specs.declared.lexical.Token.{Token}
@@ -15,83 +16,101 @@ use Rattle.ct_directive.specs.declared.heads.Heads.{Heads}
 use Rattle.ct_directive.specs.declared.search.Target.{Target}
 use Rattle.ct_directive.specs.Forms.{first_other}
 use Rattle.ct_directive.specs.Headers.{BuiltIn}
-use Rattle.ct_directive.specs.Lines.{lines_of, directive_in, words_of}
+use Rattle.ct_directive.specs.Lines.{lines_of, words_of}
+use Rattle.ct_groups.specs.Groups.{Group, Nothing, Text, Control, Section, Others, NoOthers, Elif, Else}
 use Rattle.ct_preproc.specs.declared.state.State.{State}
 use Rattle.ct_preproc.specs.declared.state.Place.{Place}
-use Rattle.ct_preproc.specs.declared.state.Conditional.{Conditional}
-use Rattle.ct_preproc.specs.declared.directives.Step.{Step}
-use Rattle.ct_preproc.specs.declared.reading.Reading.{Reading}
 use Rattle.ct_preproc.specs.declared.units.SourceUnit.{SourceUnit}
-use Rattle.ct_preproc.specs.Directives.{is_active, Acts}
-use Rattle.ct_preproc.specs.Files.{ActsThen, Closes, Enters, Follows, FollowsTo, Included, ReadsDirective, ReadsFile, ReadsLine, ReadsLines, ReadsTarget, ReadsText, Returns, begun, closes, inside, text_answer, with_include}
-use Rattle.ct_preproc.specs.Reading.{Ends, IsLexed, counts, fault_at, number_of, with_path}
+use Rattle.ct_preproc.specs.Directives.{Acts, Condition, FirstCondition}
+use Rattle.ct_preproc.specs.Files.{ActsFully, Enters, Follows, Included, ReadsFile, ReadsGroup, ReadsLines, ReadsOthers, ReadsTarget, Returns, begins, closes, inside, with_count, with_include}
+use Rattle.ct_preproc.specs.Reading.{Ends, IsLexed, Reads, counts, fault_at, number_of, with_path}
 use Rattle.ct_preproc.specs.Units.{Defined, DefinesUnit, HasDefine, HaveDefines, IsUnit, ReadsUnit, empty, main_file, most_includes, most_tokens, predefined, replaced, unit_of}
 use Rattle.ct_preproc.proofs.OneAnswer.{HasOne, this_one, choice_one, case_one, reads_one}
-use Rattle.ct_preproc.proofs.OneDirective.{acts_one}
+use Rattle.ct_preproc.proofs.OneDirective.{acts_one, condition_one, first_condition_one}
 use Rattle.ct_preproc.proofs.OneLaws.{Laws}
 use Rattle.ct_preproc.proofs.OneMeaning.{means_one}
 use Rattle.ct_preproc.proofs.OneReading.{ends_one, lexed_one}
 
--- ---- the lines of a file
+-- ---- the groups of a file
 
-text_one : (place : Place) (limit : ℕ) (reading : Reading) (line : List Token) → HasOne (ReadsText place limit reading line)
-text_one place limit reading line =
-    choice_one (is_active reading.opens) (λ answer. answer ≡ text_answer reading line (counts place limit reading.state.counted line)) (λ answer. answer ≡ Ok reading)
-    (this_one (text_answer reading line (counts place limit reading.state.counted line))) (this_one (Ok reading))
+module _ (laws : Laws) (limit : ℕ) (Opens : Place → ℕ → Header → State → Result State PreFault → Type 0)
+    (opens_one : (place : Place) (line : ℕ) (header : Header) (state : State) → HasOne (Opens place line header state)) (place : Place) where
+  follows_one : (line : ℕ) (header : Option Header) (state : State) → HasOne (Follows limit Opens place line header state)
+  follows_one line header state =
+      case_one header (λ answer. answer ≡ Ok state) (λ h. Opens place line h state) (this_one (Ok state)) (λ h. opens_one place line h state)
 
-closes_one : (laws : Laws) (place : Place) (limit : ℕ) (reading : Reading) → HasOne (Closes place limit reading)
-closes_one laws place limit reading =
-    reads_one (Ends place limit reading.state reading.text) (λ after answer. answer ≡ closes place reading.opens after)
-    (ends_one laws place limit reading.state reading.text) (λ after. this_one (closes place reading.opens after))
+  acts_fully_one : (line : ℕ) (tokens : List Token) (state : State) → HasOne (ActsFully limit Opens place line tokens state)
+  acts_fully_one line tokens state =
+      reads_one (Acts place limit line state tokens) (λ found. Follows limit Opens place line found.1 found.0)
+      (acts_one laws place limit line state tokens) (λ found. follows_one line found.1 found.0)
+
+  mutual
+    group_one : (state : State) (text : List Token) (group : Group) → HasOne (ReadsGroup limit Opens place state text group)
+    group_one state text Nothing a b f g = ends_one laws place limit state text a b f g
+    group_one state text (Text line behind) a b f g =
+        reads_one (λ found. found ≡ counts place limit state.counted line) (λ counted. ReadsGroup limit Opens place (with_count state counted) (text ++ line) behind)
+        (this_one (counts place limit state.counted line)) (λ counted. group_one (with_count state counted) (text ++ line) behind) a b f g
+    group_one state text (Control number tokens behind) a b f g =
+        reads_one (Ends place limit state text)
+        (λ ended answer. Reads (ActsFully limit Opens place number tokens ended) answer (λ after. ReadsGroup limit Opens place after [] behind answer))
+        (ends_one laws place limit state text)
+        (λ ended. reads_one (ActsFully limit Opens place number tokens ended) (λ after. ReadsGroup limit Opens place after [] behind)
+        (acts_fully_one number tokens ended) (λ after. group_one after [] behind)) a b f g
+    group_one state text (Section number name tokens inner others behind) a b f g =
+        reads_one (Ends place limit state text)
+        (λ ended answer. Reads (FirstCondition place limit number ended name tokens) answer
+        (λ found. Reads (λ read. MatchBool found.0 (ReadsGroup limit Opens place found.1 [] inner read) (ReadsOthers limit Opens place found.1 others read)) answer
+        (λ after. ReadsGroup limit Opens place after [] behind answer)))
+        (ends_one laws place limit state text)
+        (λ ended. reads_one (FirstCondition place limit number ended name tokens)
+        (λ found answer. Reads (λ read. MatchBool found.0 (ReadsGroup limit Opens place found.1 [] inner read) (ReadsOthers limit Opens place found.1 others read)) answer
+        (λ after. ReadsGroup limit Opens place after [] behind answer))
+        (first_condition_one laws place limit number ended name tokens)
+        (λ found. reads_one (λ read. MatchBool found.0 (ReadsGroup limit Opens place found.1 [] inner read) (ReadsOthers limit Opens place found.1 others read))
+        (λ after. ReadsGroup limit Opens place after [] behind)
+        (choice_one found.0 (ReadsGroup limit Opens place found.1 [] inner) (ReadsOthers limit Opens place found.1 others)
+        (group_one found.1 [] inner) (others_one found.1 others)) (λ after. group_one after [] behind))) a b f g
+
+    others_one : (state : State) (others : Others) → HasOne (ReadsOthers limit Opens place state others)
+    others_one state NoOthers a b f g = f ∙ sym g
+    others_one state (Elif number tokens inner others) a b f g =
+        reads_one (Condition place limit number state tokens)
+        (λ found answer. MatchBool found.0 (ReadsGroup limit Opens place found.1 [] inner answer) (ReadsOthers limit Opens place found.1 others answer))
+        (condition_one laws place limit number state tokens)
+        (λ found. choice_one found.0 (ReadsGroup limit Opens place found.1 [] inner) (ReadsOthers limit Opens place found.1 others)
+        (group_one found.1 [] inner) (others_one found.1 others)) a b f g
+    others_one state (Else inner) a b f g = group_one state [] inner a b f g
+
+  abbrev ReadsOutline : State → Group → Option ℕ → Result State PreFault → Type 0
+  ReadsOutline state group broken answer = Reads (ReadsGroup limit Opens place state [] group) answer (λ after. answer ≡ closes place broken after)
+
+  outline_one : (state : State) (group : Group) (broken : Option ℕ) → HasOne (ReadsOutline state group broken)
+  outline_one state group broken =
+      reads_one (ReadsGroup limit Opens place state [] group) (λ after answer. answer ≡ closes place broken after)
+      (group_one state [] group) (λ after. this_one (closes place broken after))
+
+  lines_one : (state : State) (lines : List (List Token)) → HasOne (ReadsLines limit Opens place state lines)
+  lines_one state lines a b f g =
+      let group : f.0 ≡ g.0 = laws.group lines f.0 g.0 f.1 g.1 f.2 g.2 in
+      let broken : f.1 ≡ g.1 = laws.broken lines f.0 g.0 f.1 g.1 f.2 g.2 in
+      outline_one state g.0 g.1 a b
+      (subst (λ (broken : Option ℕ). ReadsOutline state g.0 broken a) broken (subst (λ (group : Group). ReadsOutline state group f.1 a) group f.3)) g.3
 
 module _ (laws : Laws) (limit : ℕ) (Opens : Place → ℕ → Header → State → Result State PreFault → Type 0)
     (opens_one : (place : Place) (line : ℕ) (header : Header) (state : State) → HasOne (Opens place line header state)) where
-  follows_one : (place : Place) (line : ℕ) (header : Option Header) (state : State) → HasOne (Follows limit Opens place line header state)
-  follows_one place line header state =
-      case_one header (λ answer. answer ≡ Ok state) (λ h. Opens place line h state) (this_one (Ok state)) (λ h. opens_one place line h state)
-
-  follows_to_one : (place : Place) (line : ℕ) (step : Step) → HasOne (FollowsTo limit Opens place line step)
-  follows_to_one place line step =
-      reads_one (Follows limit Opens place line step.header step.state)
-      (λ after answer. answer ≡ Ok (record { state = after; opens = step.opens; text = [] }))
-      (follows_one place line step.header step.state)
-      (λ after. this_one (Ok (record { state = after; opens = step.opens; text = [] })))
-
-  acts_then_one : (place : Place) (line : ℕ) (opens : List Conditional) (tokens : List Token) (state : State)
-      → HasOne (ActsThen limit Opens place line opens tokens state)
-  acts_then_one place line opens tokens state =
-      reads_one (Acts place limit line state opens tokens) (λ step. FollowsTo limit Opens place line step)
-      (acts_one laws place limit line state opens tokens) (λ step. follows_to_one place line step)
-
-  directive_one : (place : Place) (reading : Reading) (line : ℕ) (tokens : List Token) → HasOne (ReadsDirective limit Opens place reading line tokens)
-  directive_one place reading line tokens =
-      reads_one (Ends place limit reading.state reading.text) (λ ended. ActsThen limit Opens place line reading.opens tokens ended)
-      (ends_one laws place limit reading.state reading.text) (λ ended. acts_then_one place line reading.opens tokens ended)
-
-  line_one : (place : Place) (reading : Reading) (line : List Token) → HasOne (ReadsLine limit Opens place reading line)
-  line_one place reading line =
-      case_one (directive_in line) (ReadsText place limit reading line) (λ found. ReadsDirective limit Opens place reading found.0.span.line found.1)
-      (text_one place limit reading line) (λ found. directive_one place reading found.0.span.line found.1)
-
-  lines_one : (place : Place) (reading : Reading) (lines : List (List Token)) → HasOne (ReadsLines limit Opens place reading lines)
-  lines_one place reading [] a b f g = closes_one laws place limit reading a b f g
-  lines_one place reading (line ∷ lines) a b f g =
-      reads_one (ReadsLine limit Opens place reading line) (λ next. ReadsLines limit Opens place next lines)
-      (line_one place reading line) (λ next. lines_one place next lines) a b f g
-
   file_one : (place : Place) (text : List ℕ) (built_in : Bool) (state : State) → HasOne (ReadsFile limit Opens place text built_in state)
   file_one place text built_in state =
       reads_one (IsLexed place built_in (number_of place.path state.files) text)
-      (λ tokens. ReadsLines limit Opens place (begun place state) (lines_of tokens))
-      (lexed_one laws place built_in (number_of place.path state.files) text) (λ tokens. lines_one place (begun place state) (lines_of tokens))
+      (λ tokens. ReadsLines limit Opens place (begins place state) (lines_of tokens))
+      (lexed_one laws place built_in (number_of place.path state.files) text) (λ tokens. lines_one laws limit Opens opens_one place (begins place state) (lines_of tokens))
 
   -- ---- includes
 
   returns_one : (place : Place) (target : Target) (state : State) → HasOne (Returns limit Opens place target state)
   returns_one place target state =
-      reads_one (ReadsFile limit Opens (inside limit Opens place target.path) target.text target.built_in state)
+      reads_one (ReadsFile limit Opens (inside place target.path) target.text target.built_in state)
       (λ after answer. answer ≡ Ok (record after { macros = with_path place.path after.macros }))
-      (file_one (inside limit Opens place target.path) target.text target.built_in state)
+      (file_one (inside place target.path) target.text target.built_in state)
       (λ after. this_one (Ok (record after { macros = with_path place.path after.macros })))
 
   target_one : (place : Place) (line : ℕ) (header : Header) (state : State) (target : Target)

@@ -1,11 +1,12 @@
 -- The laws of the layers below: each thing that a unit is read by is one at most.
-use Rattle.std.proofs.Common.{◌≡◌, ℕ, Bool, List}
+use Rattle.std.proofs.Common.{◌≡◌, ℕ, Bool, List, Option}
 use Rattle.std.specs.Prelude.{Result}
 use Rattle.ct_base.specs.declared.lexical.Token.{Token}
 use Rattle.ct_token.specs.Lexing.{IsTokenization, LeavesOpen}
 use Rattle.ct_replace.specs.declared.definition.Macro.{Macro}
 use Rattle.ct_macro.specs.declared.faults.MacroFault.{MacroFault}
 use Rattle.ct_macro.specs.Expansion.{IsExpansion, IsRefusal}
+use Rattle.ct_groups.specs.Groups.{Group, IsOutline}
 use Rattle.ct_ppexpr.specs.declared.CondFault.{CondFault}
 use Rattle.ct_ppexpr.specs.Conditions.{HasValue}
 
@@ -20,3 +21,5 @@ pub record Laws : Type 0 where
   pub refusal : (macros : List Macro) (tokens : List Token) (room : ℕ) (one other : MacroFault)
       → IsRefusal macros tokens room one → IsRefusal macros tokens room other → one ≡ other
   pub condition : (tokens : List Token) (a b : Result Bool CondFault) → HasValue tokens a → HasValue tokens b → a ≡ b
+  pub group : (lines : List (List Token)) (a b : Group) (first second : Option ℕ) → IsOutline lines a first → IsOutline lines b second → a ≡ b
+  pub broken : (lines : List (List Token)) (a b : Group) (first second : Option ℕ) → IsOutline lines a first → IsOutline lines b second → first ≡ second

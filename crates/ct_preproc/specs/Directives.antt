@@ -1,45 +1,26 @@
--- What a directive does (C11 6.10): it changes the state, it opens, goes on with or closes a conditional, or it includes
--- a header.
-use Rattle.std.specs.Prelude.{◌≡◌, ℕ, ◌&&◌, ◌||◌, not, Bool, true, false, List, [], ◌∷◌, Some, None, Result, Ok, Err, MatchOption, codes, if◌then◌else◌}
+-- What a directive does (C11 6.10): a control line changes the state or includes a header, and the condition of a group
+-- says whether the group is read.
+use Rattle.std.specs.Prelude.{◌≡◌, ℕ, Bool, false, List, [], ◌∷◌, Option, Some, None, Result, Ok, Err, MatchOption, codes, if◌then◌else◌}
 use Rattle.std.specs.Bool.{MatchBool}
 use Rattle.ct_base.specs.declared.lexical.Token.{Token}
 use Rattle.ct_directive.specs.declared.faults.PreFault.{PreFault}
 use Rattle.ct_directive.specs.declared.faults.PreKind.TheVariants as pre
+use Rattle.ct_directive.specs.declared.forms.Header.{Header}
 use Rattle.ct_preproc.specs.declared.state.State.{State}
 use Rattle.ct_preproc.specs.declared.state.Place.{Place}
-use Rattle.ct_preproc.specs.declared.state.Conditional.{Conditional}
-use Rattle.ct_preproc.specs.declared.directives.Step.{Step}
 use Rattle.ct_directive.specs.Forms.{one_name, undefined_name, definition_in, is, first_other}
 use Rattle.ct_preproc.specs.Reading.{Reads, fault_at, Holds, name_answer, HasDefined, undefines, Names, with_file}
 
--- ---- open conditionals, the innermost first
+-- Tokens of which one begins no preprocessing token are refused.
+abbrev pub Formed : {A : Type 0} → Place → List Token → Result A PreFault → Type 0 → Type 0
+Formed place tokens answer Next =
+    MatchOption (first_other tokens) Next (λ other. answer ≡ Err (fault_at place other.span.line pre.BadToken))
 
--- the text behind them is read
-abbrev pub is_active : List Conditional → Bool
-is_active [] = true
-is_active (one ∷ others) = one.now
+-- ---- control lines
 
-abbrev pub opened : ℕ → Bool → Bool → Conditional
-opened line outer now = record { line = line; outer = outer; taken = now; now = now; last = false }
-
--- a further group of a conditional, behind an `#elif`
-abbrev pub regrouped : Conditional → Bool → Conditional
-regrouped one now = record one { taken = one.taken || now; now = now }
-
--- the group behind an `#else`
-abbrev pub otherwise : Conditional → Conditional
-otherwise one = record one { taken = true; now = one.outer && not one.taken; last = true }
-
--- ---- steps
-
--- what stands behind a directive: the state and the open conditionals, and the header that is to be included now
-abbrev pub Answer : Type 0
-Answer = Result Step PreFault
-
-abbrev pub step_to : List Conditional → State → Step
-step_to opens state = record { state = state; opens = opens; header = None }
-
--- ---- directives in active text
+-- what a control line leaves: the state, and the header that is to be included now
+abbrev pub Effect : Type 0
+Effect = Result (State × Option Header) PreFault
 
 -- `#pragma once` and other pragmas
 abbrev pub is_once : List Token → Bool
@@ -49,77 +30,42 @@ is_once tokens = false
 abbrev pub pragma : Place → State → List Token → State
 pragma place state tokens = if is_once tokens then record state { once = with_file place.path state.once } else state
 
-abbrev pub Opens : ℕ → List Conditional → (Result (Bool × State) PreFault → Type 0) → Answer → Type 0
-Opens line opens Test answer = Reads Test answer (λ found. answer ≡ Ok (step_to (opened line true found.0 ∷ opens) found.1))
+abbrev pub Changes : (Result State PreFault → Type 0) → Effect → Type 0
+Changes Does answer = Reads Does answer (λ state. answer ≡ Ok (state, None))
 
-abbrev pub Changes : List Conditional → (Result State PreFault → Type 0) → Answer → Type 0
-Changes opens Does answer = Reads Does answer (λ state. answer ≡ Ok (step_to opens state))
-
-abbrev pub Includes : Place → ℕ → ℕ → State → List Conditional → List Token → Answer → Type 0
-Includes place limit line state opens tokens answer =
-    Reads (Names place limit line state tokens) answer
-    (λ found. answer ≡ Ok (record { state = found.1; opens = opens; header = Some found.0 }))
+abbrev pub Includes : Place → ℕ → ℕ → State → List Token → Effect → Type 0
+Includes place limit line state tokens answer =
+    Reads (Names place limit line state tokens) answer (λ found. answer ≡ Ok (found.1, Some found.0))
 
 -- by the name behind the `#`, where each token is a preprocessing token
-abbrev pub NamedActs : Place → ℕ → ℕ → State → List Conditional → Token → List Token → Answer → Type 0
-NamedActs place limit line state opens name tokens answer =
-    MatchBool (is (codes "if") name) (Opens line opens (Holds place limit line state tokens) answer)
-    (MatchBool (is (codes "ifdef") name) (Opens line opens (λ found. found ≡ name_answer place line true state (one_name tokens)) answer)
-    (MatchBool (is (codes "ifndef") name) (Opens line opens (λ found. found ≡ name_answer place line false state (one_name tokens)) answer)
-    (MatchBool (is (codes "include") name) (Includes place limit line state opens tokens answer)
-    (MatchBool (is (codes "define") name) (Changes opens (HasDefined place line state (definition_in tokens)) answer)
-    (MatchBool (is (codes "undef") name) (Changes opens (λ found. found ≡ undefines place line state (undefined_name tokens)) answer)
-    (MatchBool (is (codes "warning") name) (answer ≡ Ok (step_to opens state)) (answer ≡ Err (fault_at place line pre.BadDirective))))))))
+abbrev pub NamedActs : Place → ℕ → ℕ → State → Token → List Token → Effect → Type 0
+NamedActs place limit line state name tokens answer =
+    MatchBool (is (codes "include") name) (Includes place limit line state tokens answer)
+    (MatchBool (is (codes "define") name) (Changes (HasDefined place line state (definition_in tokens)) answer)
+    (MatchBool (is (codes "undef") name) (Changes (λ found. found ≡ undefines place line state (undefined_name tokens)) answer)
+    (MatchBool (is (codes "warning") name) (answer ≡ Ok (state, None)) (answer ≡ Err (fault_at place line pre.BadDirective)))))
 
--- the same, for tokens of any kind: `#error` is refused, and a pragma may hold any tokens
-abbrev pub ActiveActs : Place → ℕ → ℕ → State → List Conditional → List Token → Answer → Type 0
-ActiveActs place limit line state opens [] answer = answer ≡ Ok (step_to opens state)
-ActiveActs place limit line state opens (name ∷ tokens) answer =
+-- What the control line with these tokens behind its `#` does: `#error` is refused, and a pragma may hold any tokens.
+abbrev pub Acts : Place → ℕ → ℕ → State → List Token → Effect → Type 0
+Acts place limit line state [] answer = answer ≡ Ok (state, None)
+Acts place limit line state (name ∷ tokens) answer =
     MatchBool (is (codes "error") name) (answer ≡ Err (fault_at place line pre.Error))
-    (MatchBool (is (codes "pragma") name) (answer ≡ Ok (step_to opens (pragma place state tokens)))
-    (MatchOption (first_other (name ∷ tokens)) (NamedActs place limit line state opens name tokens answer)
-    (λ other. answer ≡ Err (fault_at place other.span.line pre.BadToken))))
+    (MatchBool (is (codes "pragma") name) (answer ≡ Ok (pragma place state tokens, None))
+    (Formed place (name ∷ tokens) answer (NamedActs place limit line state name tokens answer)))
 
--- ---- directives in text that is skipped, where the conditionals alone are seen (6.10p4)
+-- ---- the conditions of groups (6.10.1)
 
-abbrev pub opens_group : Token → Bool
-opens_group name = is (codes "if") name || is (codes "ifdef") name || is (codes "ifndef") name
+-- whether the group of an `#if` or `#elif` is read
+abbrev pub Condition : Place → ℕ → ℕ → State → List Token → Result (Bool × State) PreFault → Type 0
+Condition place limit line state tokens answer = Formed place tokens answer (Holds place limit line state tokens answer)
 
-abbrev pub skips : ℕ → State → List Conditional → List Token → Step
-skips line state opens [] = step_to opens state
-skips line state opens (name ∷ tokens) = step_to (if opens_group name then opened line false false ∷ opens else opens) state
+-- that of an `#ifdef`, where a name shall be defined, or of an `#ifndef`, where it shall not
+abbrev pub NameCondition : Place → ℕ → Bool → State → List Token → Result (Bool × State) PreFault → Type 0
+NameCondition place line defined state tokens answer =
+    Formed place tokens answer (answer ≡ name_answer place line defined state (one_name tokens))
 
--- ---- `#elif`, `#else` and `#endif`, which belong to the innermost open conditional
-
--- The condition of an `#elif` counts where the conditional is active and no group was taken.
-abbrev pub Elif : Place → ℕ → ℕ → State → Conditional → List Conditional → List Token → Answer → Type 0
-Elif place limit line state one others tokens answer =
-    MatchBool (one.outer && not one.taken)
-    (MatchOption (first_other tokens)
-    (Reads (Holds place limit line state tokens) answer (λ found. answer ≡ Ok (step_to (regrouped one found.0 ∷ others) found.1)))
-    (λ other. answer ≡ Err (fault_at place other.span.line pre.BadToken)))
-    (answer ≡ Ok (step_to (regrouped one false ∷ others) state))
-
-abbrev pub Parts : Place → ℕ → ℕ → State → List Conditional → Token → List Token → Answer → Type 0
-Parts place limit line state [] name tokens answer = answer ≡ Err (fault_at place line pre.Unbalanced)
-Parts place limit line state (one ∷ others) name tokens answer =
-    MatchBool (is (codes "endif") name) (answer ≡ Ok (step_to others state))
-    (MatchBool one.last (answer ≡ Err (fault_at place line pre.Unbalanced))
-    (MatchBool (is (codes "else") name) (answer ≡ Ok (step_to (otherwise one ∷ others) state))
-    (Elif place limit line state one others tokens answer)))
-
-abbrev pub is_part : Token → Bool
-is_part name = is (codes "elif") name || is (codes "else") name || is (codes "endif") name
-
--- ---- directives
-
-abbrev pub OtherActs : Place → ℕ → ℕ → State → List Conditional → List Token → Answer → Type 0
-OtherActs place limit line state opens tokens answer =
-    MatchBool (is_active opens) (ActiveActs place limit line state opens tokens answer) (answer ≡ Ok (skips line state opens tokens))
-
--- what the directive with these tokens behind its `#` does
-abbrev pub Acts : Place → ℕ → ℕ → State → List Conditional → List Token → Answer → Type 0
-Acts place limit line state opens [] answer = OtherActs place limit line state opens [] answer
-Acts place limit line state opens (name ∷ tokens) answer =
-    MatchBool (is_part name) (Parts place limit line state opens name tokens answer)
-    (OtherActs place limit line state opens (name ∷ tokens) answer)
+-- that of a directive of this name which opens a conditional
+abbrev pub FirstCondition : Place → ℕ → ℕ → State → Token → List Token → Result (Bool × State) PreFault → Type 0
+FirstCondition place limit line state name tokens answer =
+    MatchBool (is (codes "if") name) (Condition place limit line state tokens answer)
+    (NameCondition place line (is (codes "ifdef") name) state tokens answer)

@@ -1,5 +1,5 @@
--- How a file is read, and what it includes (C11 6.10.2).
-use Rattle.std.specs.Prelude.{◌≡◌, ℕ, ◌+◌, zero, suc, Bool, List, [], ◌∷◌, ◌++◌, Option, Result, Ok, Err, MatchOption}
+-- How a file is read by its groups (C11 6.10p1), and what it includes (6.10.2).
+use Rattle.std.specs.Prelude.{◌≡◌, ℕ, ◌+◌, zero, suc, Bool, List, [], ◌∷◌, ◌++◌, Option, Some, None, Result, Ok, Err, MatchOption}
 use Rattle.std.specs.Bool.{MatchBool}
 use Rattle.std.specs.List.{list_any}
 use Rattle.std.specs.Str.{bytes_eq}
@@ -11,21 +11,14 @@ use Rattle.ct_directive.specs.declared.faults.PreKind.TheVariants as pre
 use Rattle.ct_directive.specs.declared.forms.Header.{Header}
 use Rattle.ct_directive.specs.declared.heads.Heads.{Heads}
 use Rattle.ct_directive.specs.declared.search.Target.{Target}
+use Rattle.ct_groups.specs.Groups.{Group, Nothing, Text, Control, Section, Others, NoOthers, Elif, Else, IsOutline}
 use Rattle.ct_preproc.specs.declared.state.State.{State}
 use Rattle.ct_preproc.specs.declared.state.Place.{Place}
-use Rattle.ct_preproc.specs.declared.state.Conditional.{Conditional}
-use Rattle.ct_preproc.specs.declared.directives.Step.{Step}
-use Rattle.ct_preproc.specs.declared.reading.Reading.{Reading}
-use Rattle.ct_preproc.specs.Directives.{is_active, Acts}
+use Rattle.ct_preproc.specs.Directives.{Acts, Condition, FirstCondition}
 use Rattle.ct_directive.specs.Headers.{BuiltIn}
-use Rattle.ct_directive.specs.Lines.{lines_of, directive_in}
+use Rattle.ct_directive.specs.Lines.{lines_of}
 use Rattle.ct_preproc.specs.Reading.{Reads, fault_at, IsLexed, counts, Ends, with_file, with_path, number_of}
 use Rattle.ct_directive.specs.Search.{Means}
-
--- at the end of a file no conditional is open
-abbrev pub closes : Place → List Conditional → State → Result State PreFault
-closes place [] state = Ok state
-closes place (one ∷ others) state = Err (fault_at place one.line pre.Unbalanced)
 
 abbrev pub with_include : Place → ℕ → List ℕ → List ℕ → State → State
 with_include place line name path state =
@@ -35,66 +28,62 @@ with_include place line name path state =
 abbrev pub begins : Place → State → State
 begins place state = record state { files = with_file place.path state.files; macros = with_path place.path state.macros }
 
--- what is known at its begin
-abbrev pub begun : Place → State → Reading
-begun place state = record { state = begins place state; opens = []; text = [] }
+-- a text line is counted
+abbrev pub with_count : State → ℕ → State
+with_count state counted = record state { counted = counted }
 
--- a text line is read and not yet expanded
-abbrev pub with_text : Reading → ℕ → List Token → Reading
-with_text reading counted line = record reading { state = record reading.state { counted = counted }; text = reading.text ++ line }
+-- behind all that is read of it a file whose conditionals are not balanced is refused, in this line
+abbrev pub closes : Place → Option ℕ → State → Result State PreFault
+closes place None state = Ok state
+closes place (Some line) state = Err (fault_at place line pre.Unbalanced)
 
--- what is known behind an active text line, by the count behind it
-abbrev pub text_answer : Reading → List Token → Result ℕ PreFault → Result Reading PreFault
-text_answer reading line (Ok counted) = Ok (with_text reading counted line)
-text_answer reading line (Err fault) = Err fault
-
--- a text line is counted, where it is active
-abbrev pub ReadsText : Place → ℕ → Reading → List Token → Result Reading PreFault → Type 0
-ReadsText place limit reading line answer =
-    MatchBool (is_active reading.opens) (answer ≡ text_answer reading line (counts place limit reading.state.counted line)) (answer ≡ Ok reading)
-
--- the end of a file
-abbrev pub Closes : Place → ℕ → Reading → Result State PreFault → Type 0
-Closes place limit reading answer =
-    Reads (Ends place limit reading.state reading.text) answer (λ after. answer ≡ closes place reading.opens after)
+abbrev pub inside : Place → List ℕ → Place
+inside place path = record { path = path; depth = place.depth + 1 }
 
 module _ (limit : ℕ) (Enters : Place → ℕ → Header → State → Result State PreFault → Type 0) where
-  -- what follows a directive: an include of its header, or nothing
+  -- what follows a control line: an include of its header, or nothing
   abbrev pub Follows : Place → ℕ → Option Header → State → Result State PreFault → Type 0
   Follows place line header state answer = MatchOption header (answer ≡ Ok state) (λ header. Enters place line header state answer)
 
-  -- what is known behind a directive
-  abbrev pub FollowsTo : Place → ℕ → Step → Result Reading PreFault → Type 0
-  FollowsTo place line step answer =
-      Reads (Follows place line step.header step.state) answer (λ after. answer ≡ Ok (record { state = after; opens = step.opens; text = [] }))
+  abbrev pub ActsFully : Place → ℕ → List Token → State → Result State PreFault → Type 0
+  ActsFully place line tokens state answer =
+      Reads (Acts place limit line state tokens) answer (λ found. Follows place line found.1 found.0 answer)
 
-  abbrev pub ActsThen : Place → ℕ → List Conditional → List Token → State → Result Reading PreFault → Type 0
-  ActsThen place line opens tokens state answer =
-      Reads (Acts place limit line state opens tokens) answer (λ step. FollowsTo place line step answer)
+  abbrev mutual
+    -- A group is read in a state and behind text lines that are not yet expanded: these and the ones that follow are
+    -- expanded as one list where a directive or the end of the group stands.
+    pub ReadsGroup : Place → State → List Token → Group → Result State PreFault → Type 0
+    ReadsGroup place state text Nothing answer = Ends place limit state text answer
+    ReadsGroup place state text (Text line behind) answer =
+        Reads (λ found. found ≡ counts place limit state.counted line) answer
+        (λ counted. ReadsGroup place (with_count state counted) (text ++ line) behind answer)
+    ReadsGroup place state text (Control number tokens behind) answer =
+        Reads (Ends place limit state text) answer
+        (λ ended. Reads (ActsFully place number tokens ended) answer (λ after. ReadsGroup place after [] behind answer))
+    ReadsGroup place state text (Section number name tokens inner others behind) answer =
+        Reads (Ends place limit state text) answer
+        (λ ended. Reads (FirstCondition place limit number ended name tokens) answer
+        (λ found. Reads (λ read. MatchBool found.0 (ReadsGroup place found.1 [] inner read) (ReadsOthers place found.1 others read)) answer
+        (λ after. ReadsGroup place after [] behind answer)))
 
-  -- a directive acts on what the text before it gives
-  abbrev pub ReadsDirective : Place → Reading → ℕ → List Token → Result Reading PreFault → Type 0
-  ReadsDirective place reading line tokens answer =
-      Reads (Ends place limit reading.state reading.text) answer (λ ended. ActsThen place line reading.opens tokens ended answer)
+    -- the further groups of a conditional, where none before was read
+    pub ReadsOthers : Place → State → Others → Result State PreFault → Type 0
+    ReadsOthers place state NoOthers answer = answer ≡ Ok state
+    ReadsOthers place state (Elif number tokens inner others) answer =
+        Reads (Condition place limit number state tokens) answer
+        (λ found. MatchBool found.0 (ReadsGroup place found.1 [] inner answer) (ReadsOthers place found.1 others answer))
+    ReadsOthers place state (Else inner) answer = ReadsGroup place state [] inner answer
 
-  abbrev pub ReadsLine : Place → Reading → List Token → Result Reading PreFault → Type 0
-  ReadsLine place reading line answer =
-      MatchOption (directive_in line) (ReadsText place limit reading line answer)
-      (λ found. ReadsDirective place reading found.0.span.line found.1 answer)
-
-  -- the rest of a file
-  abbrev pub ReadsLines : Place → Reading → List (List Token) → Result State PreFault → Type 0
-  ReadsLines place reading [] answer = Closes place limit reading answer
-  ReadsLines place reading (line ∷ lines) answer =
-      Reads (ReadsLine place reading line) answer (λ next. ReadsLines place next lines answer)
+  -- the lines of a file
+  abbrev pub ReadsLines : Place → State → List (List Token) → Result State PreFault → Type 0
+  ReadsLines place state lines answer =
+      (group : Group) × (broken : Option ℕ) × IsOutline lines group broken
+      × Reads (ReadsGroup place state [] group) answer (λ after. answer ≡ closes place broken after)
 
   abbrev pub ReadsFile : Place → List ℕ → Bool → State → Result State PreFault → Type 0
   ReadsFile place text built_in state answer =
       Reads (IsLexed place built_in (number_of place.path state.files) text) answer
-      (λ tokens. ReadsLines place (begun place state) (lines_of tokens) answer)
-
-  abbrev pub inside : Place → List ℕ → Place
-  inside place path = record { path = path; depth = place.depth + 1 }
+      (λ tokens. ReadsLines place (begins place state) (lines_of tokens) answer)
 
   -- behind an include `__FILE__` is again the path of the file that includes
   abbrev pub Returns : Place → Target → State → Result State PreFault → Type 0
@@ -102,14 +91,14 @@ module _ (limit : ℕ) (Enters : Place → ℕ → Header → State → Result S
       Reads (ReadsFile (inside place target.path) target.text target.built_in state) answer
       (λ after. answer ≡ Ok (record after { macros = with_path place.path after.macros }))
 
-  -- a file that an include means is read, if it is not one that is read once
+  -- An include is noted. Its file is read, if it is none whose `#pragma once` was met.
   abbrev pub ReadsTarget : Place → ℕ → Header → State → Result State PreFault → Target → Type 0
   ReadsTarget place line header state answer target =
       MatchBool (list_any (bytes_eq target.path) state.once) (answer ≡ Ok (with_include place line header.name target.path state))
       (Returns place target (with_include place line header.name target.path state) answer)
 
 module _ (files : Files) (folders : List (List ℕ)) (heads : Heads) (headers : List BuiltIn) (limit : ℕ) where
-  -- what the header means, if it means anything
+  -- what the header means; where it means nothing the include is refused
   abbrev pub Included : Place → ℕ → Header → Result State PreFault → (Target → Type 0) → Type 0
   Included place line header answer Found =
       (target : Option Target) × Means files folders heads headers place.path header target

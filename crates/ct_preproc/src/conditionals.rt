@@ -2,13 +2,15 @@
 
 ghost use Rattle.std.specs.Prelude.{◌≡◌, ◌∷◌, IfOk};
 ghost use Rattle.ct_base.specs.Answers.{OnAnswer};
-ghost use Rattle.ct_preproc.specs.Directives as spec;
+ghost use Rattle.ct_groups.specs.Groups as groups;
+ghost use Rattle.ct_preproc.specs.Directives as directives;
+ghost use Rattle.ct_preproc.specs.Steps as spec;
 
 use crate::directives::{Step, step_to};
 use crate::file::File;
 use crate::state::{Conditional, Opens, State};
 use ct_base::{Mem, Out, Token};
-use ct_directive::{PreFault, PreKind, first_other, is};
+use ct_directive::{PreFault, PreKind, first_other, is, one_name};
 
 /// A conditional that opens in this line.
 pub fn opened(line: u32, outer: bool, now: bool) -> Conditional
@@ -25,7 +27,7 @@ pub fn opened(line: u32, outer: bool, now: bool) -> Conditional
 
 /// Whether a directive opens a conditional.
 pub fn opens_group(name: &Token) -> bool
-    ensures { result ≡ spec.opens_group name.now }
+    ensures { result ≡ groups.opens_group name.now }
 {
     is(b"if".as_slice(), name) || is(b"ifdef".as_slice(), name) || is(b"ifndef".as_slice(), name)
 }
@@ -70,6 +72,52 @@ fn going_on(one: Conditional, others: Opens, state: State) -> Mem<Step>
 }
 
 impl File<'_> {
+    /// The condition of an `#if` or `#elif`.
+    #[tactic(auto, using(crate::proofs::Choices::choice_rules))]
+    fn condition(&self, line: u32, state: State, tokens: &[Token]) -> Out<(bool, State), PreFault>
+        ensures { OnAnswer result (directives.Condition self.now.place.now self.now.limit line state tokens.now) }
+    {
+        match first_other(tokens) {
+            Some(other) => Err(self.fault(other.span.line, PreKind::BadToken)),
+            None => self.holds(line, state, tokens),
+        }
+    }
+
+    /// The condition of an `#ifdef`, or of an `#ifndef` where the name shall not be defined.
+    #[tactic(auto, using(crate::proofs::Choices::choice_rules))]
+    fn name_condition(
+        &self,
+        line: u32,
+        defined: bool,
+        state: State,
+        tokens: &[Token],
+    ) -> Out<(bool, State), PreFault>
+        ensures { OnAnswer result (directives.NameCondition self.now.place.now line defined state tokens.now) }
+    {
+        match first_other(tokens) {
+            Some(other) => Err(self.fault(other.span.line, PreKind::BadToken)),
+            None => self.name_holds(line, defined, state, one_name(tokens)),
+        }
+    }
+
+    /// The condition of a directive of this name which opens a conditional.
+    #[tactic(auto, using(crate::proofs::Choices::choice_rules))]
+    pub fn first_condition(
+        &self,
+        line: u32,
+        state: State,
+        name: &Token,
+        tokens: &[Token],
+    ) -> Out<(bool, State), PreFault>
+        ensures { OnAnswer result (directives.FirstCondition self.now.place.now self.now.limit line state name.now tokens.now) }
+    {
+        if is(b"if".as_slice(), name) {
+            self.condition(line, state, tokens)
+        } else {
+            self.name_condition(line, is(b"ifdef".as_slice(), name), state, tokens)
+        }
+    }
+
     /// The `#elif` of a conditional in these others.
     #[tactic(auto, using(crate::proofs::Choices::choice_rules))]
     fn elif(
@@ -80,15 +128,12 @@ impl File<'_> {
         others: Opens,
         tokens: &[Token],
     ) -> Out<Step, PreFault>
-        ensures { OnAnswer result (spec.Elif self.now.place.now self.now.limit line state one others tokens.now) }
+        ensures { OnAnswer result (spec.Elifs self.now.place.now self.now.limit line state one others tokens.now) }
     {
         if !one.outer || one.taken {
             return Ok(going_on(regrouped(one, false), others, state)?);
         }
-        if let Some(other) = first_other(tokens) {
-            return Err(self.fault(other.span.line, PreKind::BadToken));
-        }
-        let (holds, state) = self.holds(line, state, tokens)?;
+        let (holds, state) = self.condition(line, state, tokens)?;
         Ok(going_on(regrouped(one, holds), others, state)?)
     }
 

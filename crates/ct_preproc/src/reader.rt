@@ -4,7 +4,8 @@ ghost use Rattle.std.specs.Prelude.{◌≡◌, ◌+◌, ◌<◌, ◌^◌, IfOk, 
 ghost use Rattle.ct_base.specs.Answers.{IfFault, OnAnswer};
 ghost use Rattle.ct_preproc.specs.Files as spec;
 ghost use Rattle.ct_directive.specs.Headers.{built_in_headers};
-ghost use Rattle.ct_preproc.specs.Reading as steps;
+ghost use Rattle.ct_preproc.specs.Reading as reads;
+ghost use Rattle.ct_preproc.specs.Steps as steps;
 ghost use Rattle.ct_directive.specs.Search as search;
 
 use crate::directives::Step;
@@ -14,6 +15,7 @@ use crate::reading::{Reading, begun, with_include};
 use crate::state::{Opens, Place, State};
 use ct_base::{Items, LimitKind, Mem, Out, Token};
 use ct_directive::{Header, PreFault, PreKind, Search, Target, directive_in, lines_of};
+use ct_groups::each_outline;
 use ct_outside::Finder;
 
 /// What reads the files of a unit: where includes are found.
@@ -140,7 +142,7 @@ impl<F: Finder> Reader<'_, F> {
     #[cycle(reads)]
     fn follow(&self, more: u32, file: File<'_>, line: u32, step: Step) -> Out<Reading, PreFault>
         requires { file.place.now.depth + more < 2 ^ 32 }
-        ensures { OnAnswer result (spec.FollowsTo file.entry.limit (spec.Enters (F.texts self.now.search.finder.now) self.now.search.folders.now self.now.search.heads.now built_in_headers file.entry.limit more) file.entry.place.now line step) }
+        ensures { OnAnswer result (steps.FollowsTo file.entry.limit (spec.Enters (F.texts self.now.search.finder.now) self.now.search.folders.now self.now.search.heads.now built_in_headers file.entry.limit more) file.entry.place.now line step) }
     {
         let Step {
             state,
@@ -167,7 +169,7 @@ impl<F: Finder> Reader<'_, F> {
         words: &[Token],
     ) -> Out<Reading, PreFault>
         requires { file.place.now.depth + more < 2 ^ 32 }
-        ensures { OnAnswer result (spec.ActsThen file.entry.limit (spec.Enters (F.texts self.now.search.finder.now) self.now.search.folders.now self.now.search.heads.now built_in_headers file.entry.limit more) file.entry.place.now line opens words.now state) }
+        ensures { OnAnswer result (steps.StepsThen file.entry.limit (spec.Enters (F.texts self.now.search.finder.now) self.now.search.folders.now self.now.search.heads.now built_in_headers file.entry.limit more) file.entry.place.now line opens words.now state) }
     {
         let step = file.act(line, state, opens, words)?;
         self.follow(more, file, line, step)
@@ -184,7 +186,7 @@ impl<F: Finder> Reader<'_, F> {
         words: &[Token],
     ) -> Out<Reading, PreFault>
         requires { file.place.now.depth + more < 2 ^ 32 }
-        ensures { OnAnswer result (spec.ReadsDirective file.entry.limit (spec.Enters (F.texts self.now.search.finder.now) self.now.search.folders.now self.now.search.heads.now built_in_headers file.entry.limit more) file.entry.place.now reading line words.now) }
+        ensures { OnAnswer result (steps.StepsDirective file.entry.limit (spec.Enters (F.texts self.now.search.finder.now) self.now.search.folders.now self.now.search.heads.now built_in_headers file.entry.limit more) file.entry.place.now reading line words.now) }
     {
         let Reading { state, opens, text } = reading;
         let state = file.ended(state, text)?;
@@ -202,7 +204,7 @@ impl<F: Finder> Reader<'_, F> {
         line: Items<Token>,
     ) -> Out<Reading, PreFault>
         requires { file.place.now.depth + more < 2 ^ 32 }
-        ensures { OnAnswer result (spec.ReadsLine file.entry.limit (spec.Enters (F.texts self.now.search.finder.now) self.now.search.folders.now self.now.search.heads.now built_in_headers file.entry.limit more) file.entry.place.now reading line) }
+        ensures { OnAnswer result (steps.StepsLine file.entry.limit (spec.Enters (F.texts self.now.search.finder.now) self.now.search.folders.now self.now.search.heads.now built_in_headers file.entry.limit more) file.entry.place.now reading line) }
     {
         match directive_in(line.as_slice()) {
             Some((hash, words)) => self.directive(more, file, reading, hash.span.line, words),
@@ -220,7 +222,7 @@ impl<F: Finder> Reader<'_, F> {
         lines: Vec<Items<Token>>,
     ) -> Out<State, PreFault>
         requires { file.place.now.depth + more < 2 ^ 32 }
-        ensures { OnAnswer result (spec.ReadsLines file.entry.limit (spec.Enters (F.texts self.now.search.finder.now) self.now.search.folders.now self.now.search.heads.now built_in_headers file.entry.limit more) file.entry.place.now reading lines.items) }
+        ensures { OnAnswer result (steps.StepsLines file.entry.limit (spec.Enters (F.texts self.now.search.finder.now) self.now.search.folders.now self.now.search.heads.now built_in_headers file.entry.limit more) file.entry.place.now reading lines.items) }
     {
         let mut reading = reading;
         for line in lines {
@@ -242,6 +244,7 @@ impl<F: Finder> Reader<'_, F> {
         requires { file.place.now.depth + more < 2 ^ 32 }
         ensures { OnAnswer result (spec.ReadsFile file.entry.limit (spec.Enters (F.texts self.now.search.finder.now) self.now.search.folders.now self.now.search.heads.now built_in_headers file.entry.limit more) file.entry.place.now text.now built_in state) }
     {
+        each_outline();
         let tokens = numbered(file, text, built_in, &state)?;
         let lines = lines_of(file.alloc, tokens)?;
         let reading = begun(file.alloc, file.place, state)?;
@@ -251,8 +254,8 @@ impl<F: Finder> Reader<'_, F> {
 
 /// The tokens of a file, by the number that it has in a state or is given there.
 fn numbered(file: File<'_>, text: &[u8], built_in: bool, state: &State) -> Out<Vec<Token>, PreFault>
-    ensures tokens { IfOk result (λ tokens. steps.IsLexed file.entry.place.now built_in (steps.number_of file.entry.place.now.path state.now.files) text.now (Ok tokens.items)) }
-    ensures open { IfFault result (λ fault. steps.IsLexed file.entry.place.now built_in (steps.number_of file.entry.place.now.path state.now.files) text.now (Err fault)) }
+    ensures tokens { IfOk result (λ tokens. reads.IsLexed file.entry.place.now built_in (reads.number_of file.entry.place.now.path state.now.files) text.now (Ok tokens.items)) }
+    ensures open { IfFault result (λ fault. reads.IsLexed file.entry.place.now built_in (reads.number_of file.entry.place.now.path state.now.files) text.now (Err fault)) }
 {
     let number = number_of(file.place.path.as_str(), state.files.as_slice());
     file.lexed(built_in, number, text)

@@ -4,7 +4,8 @@ ghost use Rattle.std.specs.Prelude.{◌≡◌, IfOk, Ok, Err, map};
 ghost use Rattle.ct_base.specs.Answers.{IfFault, OnAnswer};
 ghost use Rattle.ct_token.specs.Lines as token_lines;
 ghost use Rattle.ct_preproc.specs.Files as spec;
-ghost use Rattle.ct_preproc.specs.Reading as steps;
+ghost use Rattle.ct_preproc.specs.Reading as reads;
+ghost use Rattle.ct_preproc.specs.Steps as steps;
 
 use crate::file::File;
 use crate::paths::{with_file, with_path};
@@ -29,7 +30,7 @@ pub struct Reading {
 
 /// What is known at the begin of a file: it has a number, and its path is `__FILE__`.
 pub fn begun(alloc: Global, place: &Place, state: State) -> Mem<Reading>
-    ensures { IfOk result (λ reading. reading ≡ spec.begun place.now state) }
+    ensures { IfOk result (λ reading. reading ≡ steps.begun place.now state) }
 {
     let mut state = state;
     state.files = with_file(alloc, place.path.as_str(), state.files)?;
@@ -65,7 +66,7 @@ pub fn with_include(
 impl File<'_> {
     /// A text line that is active.
     fn active_line(&self, reading: Reading, line: Items<Token>) -> Out<Reading, PreFault>
-        ensures { OnAnswer result (λ answer. answer ≡ spec.text_answer reading line (steps.counts self.now.place.now self.now.limit reading.state.counted line)) }
+        ensures { OnAnswer result (λ answer. answer ≡ steps.text_answer reading line (reads.counts self.now.place.now self.now.limit reading.state.counted line)) }
     {
         let mut reading = reading;
         reading.state.counted = self.count(reading.state.counted, line.as_slice())?;
@@ -76,7 +77,7 @@ impl File<'_> {
     /// A text line.
     #[tactic(auto, using(crate::proofs::Choices::choice_rules))]
     pub fn text_line(&self, reading: Reading, line: Items<Token>) -> Out<Reading, PreFault>
-        ensures { OnAnswer result (spec.ReadsText self.now.place.now self.now.limit reading line) }
+        ensures { OnAnswer result (steps.StepsText self.now.place.now self.now.limit reading line) }
     {
         if reading.opens.is_active() {
             self.active_line(reading, line)
@@ -87,7 +88,7 @@ impl File<'_> {
 
     /// The state at the end of the file, where these conditionals are open.
     fn end(&self, opens: Opens, state: State) -> Out<State, PreFault>
-        ensures { OnAnswer result (λ answer. answer ≡ spec.closes self.now.place.now opens state) }
+        ensures { OnAnswer result (λ answer. answer ≡ steps.closed self.now.place.now opens state) }
     {
         let mut opens = opens;
         match opens.pop() {
@@ -98,7 +99,7 @@ impl File<'_> {
 
     /// The state at the end of the file.
     pub fn closed(&self, reading: Reading) -> Out<State, PreFault>
-        ensures { OnAnswer result (spec.Closes self.now.place.now self.now.limit reading) }
+        ensures { OnAnswer result (steps.Closes self.now.place.now self.now.limit reading) }
     {
         let Reading { state, opens, text } = reading;
         let state = self.ended(state, text)?;
@@ -107,8 +108,8 @@ impl File<'_> {
 
     /// The tokens of the file.
     pub fn lexed(&self, built_in: bool, number: usize, text: &[u8]) -> Out<Vec<Token>, PreFault>
-        ensures tokens { IfOk result (λ tokens. steps.IsLexed self.now.place.now built_in number text.now (Ok tokens.items)) }
-        ensures open { IfFault result (λ fault. steps.IsLexed self.now.place.now built_in number text.now (Err fault)) }
+        ensures tokens { IfOk result (λ tokens. reads.IsLexed self.now.place.now built_in number text.now (Ok tokens.items)) }
+        ensures open { IfFault result (λ fault. reads.IsLexed self.now.place.now built_in number text.now (Err fault)) }
     {
         let Ok(number) = u32::try_from(number) else {
             return Err(Fail::OutOfMemory);
@@ -128,7 +129,7 @@ impl File<'_> {
 
 /// The line that a fault has; in a built-in header it has none.
 fn line_in(built_in: bool, line: u32) -> u32
-    ensures { result ≡ steps.line_in built_in line }
+    ensures { result ≡ reads.line_in built_in line }
 {
     if built_in { 0 } else { line }
 }
@@ -150,7 +151,7 @@ fn newlines(text: &[u8]) -> usize
 
 /// Tokens without their lines.
 fn unplaced(alloc: Global, tokens: Vec<Token>) -> Mem<Vec<Token>>
-    ensures { IfOk result (λ list. list.items ≡ map steps.unplaced tokens.items) }
+    ensures { IfOk result (λ list. list.items ≡ map reads.unplaced tokens.items) }
 {
     let mut list = Vec::new(alloc);
     for token in tokens {
@@ -163,7 +164,7 @@ fn unplaced(alloc: Global, tokens: Vec<Token>) -> Mem<Vec<Token>>
 
 /// Tokens without their lines, where they are those of a built-in header.
 fn placed(alloc: Global, built_in: bool, tokens: Vec<Token>) -> Mem<Vec<Token>>
-    ensures { IfOk result (λ list. list.items ≡ steps.placed built_in tokens.items) }
+    ensures { IfOk result (λ list. list.items ≡ reads.placed built_in tokens.items) }
 {
     if built_in {
         unplaced(alloc, tokens)

@@ -1,7 +1,7 @@
 //! What is known between the lines of a unit.
 
 ghost use Rattle.std.specs.Prelude.{◌≡◌, ◌∷◌, [], MatchOption, OnOk};
-ghost use Rattle.ct_preproc.specs.Directives.{is_active};
+ghost use Rattle.ct_preproc.specs.Steps.{is_active};
 
 use crate::units::Include;
 use ct_base::{Items, Mem, Text, Token};

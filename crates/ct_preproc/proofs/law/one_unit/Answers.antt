@@ -11,5 +11,7 @@ returns c = record {
     apart = c.one_expansion.ensures.apart;
     refusal = c.one_expansion.ensures.refusal;
     condition = c.one_condition.ensures;
+    group = c.one_outline.ensures.group;
+    broken = c.one_outline.ensures.broken;
   } files folders heads headers tool defines path;
 }

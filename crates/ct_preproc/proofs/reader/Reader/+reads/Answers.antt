@@ -9,13 +9,14 @@ use Rattle.ct_directive.specs.declared.faults.PreKind.TheVariants as pre
 use Rattle.ct_directive.specs.declared.search.Target.{Target}
 use Rattle.ct_preproc.specs.declared.state.State.{State}
 use Rattle.ct_preproc.specs.declared.state.Place.{Place}
-use Rattle.ct_preproc.specs.Directives.{Acts}
 use Rattle.ct_preproc.specs.Files as spec
+use Rattle.ct_preproc.specs.Steps as steps
 use Rattle.ct_directive.specs.Headers.{built_in_headers}
 use Rattle.ct_directive.specs.Lines.{lines_of}
 use Rattle.ct_preproc.specs.Reading.{Ends, IsLexed, fault_at, number_of, with_path}
 use Rattle.ct_directive.specs.Search.{Means}
-use Rattle.ct_preproc.proofs.Choices.{on_next, on_same}
+use Rattle.ct_preproc.proofs.ByGroups.{by_groups}
+use Rattle.ct_preproc.proofs.Choices.{on_map, on_next, on_same}
 use Rattle.ct_preproc.proofs.Nesting.{enters_limit, enters_missing, enters_some, on_found, reads_end, reads_on, reads_stopped}
 use Rattle.ct_preproc.proofs.Stopping.{on_open, on_passed}
 use Rattle.ct_preproc.proofs.reader.Reader.+reads.Goals as goal
@@ -94,9 +95,9 @@ lines-loop-line-preserved g t c =
     let place = c.args.file.place.now in
     let next : c.loop-line.line-iterator.rest.items ≡ c.in-Some.line ∷ c.next.new.self.rest.items = search rules in
     reads_on c.args.file.limit enters place c.loop-line.reading c.in_ok-reading.reading c.in-Some.line c.next.new.self.rest.items
-    (spec.ReadsLines c.args.file.limit enters place c.args.reading c.args.lines.items)
-    (subst (λ (lines : List (List Token)). (answer : Result State PreFault) → spec.ReadsLines c.args.file.limit enters place c.loop-line.reading lines answer
-    → spec.ReadsLines c.args.file.limit enters place c.args.reading c.args.lines.items answer) next c.loop-line.invariant)
+    (steps.StepsLines c.args.file.limit enters place c.args.reading c.args.lines.items)
+    (subst (λ (lines : List (List Token)). (answer : Result State PreFault) → steps.StepsLines c.args.file.limit enters place c.loop-line.reading lines answer
+    → steps.StepsLines c.args.file.limit enters place c.args.reading c.args.lines.items answer) next c.loop-line.invariant)
     c.in_ok-reading.ensures
 
 pub lines-returns-in_err-reading : goal.lines-returns-in_err-reading
@@ -105,9 +106,9 @@ lines-returns-in_err-reading g t c =
     let place = c.args.file.place.now in
     let next : c.loop-line.line-iterator.rest.items ≡ c.in-Some.line ∷ c.next.new.self.rest.items = search rules in
     reads_stopped c.args.file.limit enters place c.from_residual.result c.loop-line.reading c.in-Some.line c.next.new.self.rest.items
-    (spec.ReadsLines c.args.file.limit enters place c.args.reading c.args.lines.items) c.in_err-reading.field-0.0
-    (subst (λ (lines : List (List Token)). (answer : Result State PreFault) → spec.ReadsLines c.args.file.limit enters place c.loop-line.reading lines answer
-    → spec.ReadsLines c.args.file.limit enters place c.args.reading c.args.lines.items answer) next c.loop-line.invariant)
+    (steps.StepsLines c.args.file.limit enters place c.args.reading c.args.lines.items) c.in_err-reading.field-0.0
+    (subst (λ (lines : List (List Token)). (answer : Result State PreFault) → steps.StepsLines c.args.file.limit enters place c.loop-line.reading lines answer
+    → steps.StepsLines c.args.file.limit enters place c.args.reading c.args.lines.items answer) next c.loop-line.invariant)
     (search rules) c.in_err-reading.ensures
 
 pub lines-returns : goal.lines-returns
@@ -115,7 +116,7 @@ lines-returns g t c =
     let enters = spec.Enters (g.F.Finder.texts c.args.self.now.search.finder.now) c.args.self.now.search.folders.now c.args.self.now.search.heads.now built_in_headers c.args.file.limit c.args.more in
     let place = c.args.file.place.now in
     let done : length c.loop-line.line-iterator.rest.items ≡ 0 = sym c.loop-line.line-iterator.rest.ok.0 ∙ c.in-None.ensures.steps.0 in
-    reads_end c.args.file.limit enters place c.loop-line.reading c.loop-line.line-iterator.rest.items (spec.ReadsLines c.args.file.limit enters place c.args.reading c.args.lines.items) c.closed.result
+    reads_end c.args.file.limit enters place c.loop-line.reading c.loop-line.line-iterator.rest.items (steps.StepsLines c.args.file.limit enters place c.args.reading c.args.lines.items) c.closed.result
     c.loop-line.invariant done c.closed.ensures
 
 pub read-returns-in_err-tokens : goal.read-returns-in_err-tokens
@@ -123,29 +124,33 @@ read-returns-in_err-tokens g t c =
     let enters = spec.Enters (g.F.Finder.texts c.args.self.now.search.finder.now) c.args.self.now.search.folders.now c.args.self.now.search.heads.now built_in_headers c.args.file.limit c.args.more in
     let place = c.args.file.place.now in
     on_open c.from_residual.result c.in_err-tokens.field-0.0 (IsLexed place c.args.built_in (number_of place.path c.args.state.files) c.args.text.now)
-    (λ answer tokens. spec.ReadsLines c.args.file.limit enters place (spec.begun place c.args.state) (lines_of tokens) answer) (search rules) c.in_err-tokens.ensures.«open»
+    (λ answer tokens. spec.ReadsLines c.args.file.limit enters place (spec.begins place c.args.state) (lines_of tokens) answer) (search rules) c.in_err-tokens.ensures.«open»
 
 pub acted-returns : goal.acted-returns
 acted-returns g t c =
     let enters = spec.Enters (g.F.Finder.texts c.args.self.now.search.finder.now) c.args.self.now.search.folders.now c.args.self.now.search.heads.now built_in_headers c.args.file.limit c.args.more in
-    on_next (Acts c.args.file.place.now c.args.file.limit c.args.line c.args.state c.args.opens c.args.words.now) c.in_ok-step.step c.follow.result
-    (λ step answer. spec.FollowsTo c.args.file.limit enters c.args.file.place.now c.args.line step answer) c.in_ok-step.ensures c.follow.ensures
+    on_next (steps.Steps c.args.file.place.now c.args.file.limit c.args.line c.args.state c.args.opens c.args.words.now) c.in_ok-step.step c.follow.result
+    (λ step answer. steps.FollowsTo c.args.file.limit enters c.args.file.place.now c.args.line step answer) c.in_ok-step.ensures c.follow.ensures
 
 pub directive-returns : goal.directive-returns
 directive-returns g t c =
     let enters = spec.Enters (g.F.Finder.texts c.args.self.now.search.finder.now) c.args.self.now.search.folders.now c.args.self.now.search.heads.now built_in_headers c.args.file.limit c.args.more in
     on_next (Ends c.args.file.place.now c.args.file.limit c.args.reading.state c.args.reading.text) c.in_ok-state.state c.acted.result
-    (λ ended answer. spec.ActsThen c.args.file.limit enters c.args.file.place.now c.args.line c.args.reading.opens c.args.words.now ended answer) c.in_ok-state.ensures c.acted.ensures
+    (λ ended answer. steps.StepsThen c.args.file.limit enters c.args.file.place.now c.args.line c.args.reading.opens c.args.words.now ended answer) c.in_ok-state.ensures c.acted.ensures
 
 pub read-returns : goal.read-returns
 read-returns g t c =
     let enters = spec.Enters (g.F.Finder.texts c.args.self.now.search.finder.now) c.args.self.now.search.folders.now c.args.self.now.search.heads.now built_in_headers c.args.file.limit c.args.more in
     let place = c.args.file.place.now in
-    let lines : c.in_ok-lines.lines.items ≡ lines_of c.in_ok-tokens.tokens.items = search rules in
-    let reading : c.in_ok-reading.reading ≡ spec.begun place c.args.state = search rules in
-    on_next (IsLexed place c.args.built_in (number_of place.path c.args.state.files) c.args.text.now) c.in_ok-tokens.tokens.items c.lines.result
-    (λ tokens answer. spec.ReadsLines c.args.file.limit enters place (spec.begun place c.args.state) (lines_of tokens) answer) c.in_ok-tokens.ensures.tokens
-    (on_same c.lines.result (λ reading answer. spec.ReadsLines c.args.file.limit enters place reading (lines_of c.in_ok-tokens.tokens.items) answer)
-    c.in_ok-reading.reading (spec.begun place c.args.state) reading
-    (on_same c.lines.result (λ lines answer. spec.ReadsLines c.args.file.limit enters place c.in_ok-reading.reading lines answer)
-    c.in_ok-lines.lines.items (lines_of c.in_ok-tokens.tokens.items) lines c.lines.ensures))
+    let tokens = c.in_ok-tokens.tokens.items in
+    let lines : c.in_ok-lines.lines.items ≡ lines_of tokens = search rules in
+    let reading : c.in_ok-reading.reading ≡ steps.begun place c.args.state = search rules in
+    on_next (IsLexed place c.args.built_in (number_of place.path c.args.state.files) c.args.text.now) tokens c.lines.result
+    (λ tokens answer. spec.ReadsLines c.args.file.limit enters place (spec.begins place c.args.state) (lines_of tokens) answer) c.in_ok-tokens.ensures.tokens
+    (on_map c.lines.result (steps.StepsLines c.args.file.limit enters place (steps.begun place c.args.state) (lines_of tokens))
+    (spec.ReadsLines c.args.file.limit enters place (spec.begins place c.args.state) (lines_of tokens))
+    (by_groups c.each_outline.ensures c.args.file.limit enters place c.args.state (lines_of tokens))
+    (on_same c.lines.result (λ reading answer. steps.StepsLines c.args.file.limit enters place reading (lines_of tokens) answer)
+    c.in_ok-reading.reading (steps.begun place c.args.state) reading
+    (on_same c.lines.result (λ lines answer. steps.StepsLines c.args.file.limit enters place c.in_ok-reading.reading lines answer)
+    c.in_ok-lines.lines.items (lines_of tokens) lines c.lines.ensures)))

@@ -2,15 +2,16 @@ use Rattle.std.proofs.Common.{◌+◌, ◌*◌}
 use Rattle.std.specs.Prelude.{Result}
 use Rattle.ct_directive.specs.declared.faults.PreFault.{PreFault}
 use Rattle.ct_preproc.specs.declared.state.State.{State}
-use Rattle.ct_preproc.specs.Files.{ReadsLines, Enters}
+use Rattle.ct_preproc.specs.Files.{Enters}
+use Rattle.ct_preproc.specs.Steps.{StepsLines}
 use Rattle.ct_directive.specs.Headers.{built_in_headers}
 use Rattle.ct_preproc.proofs.reader.Reader.+reads.Given as goal
 
 abbrev pub invariant-lines-loop-line : goal.invariant-lines-loop-line
 invariant-lines-loop-line g l =
     (answer : Result State PreFault)
-    → ReadsLines l.file.limit (Enters (g.F.Finder.texts l.self.search.finder.now) l.self.search.folders.now l.self.search.heads.now built_in_headers l.file.limit l.more) l.file.place.now l.reading l.line-iterator.rest.items answer
-    → ReadsLines l.file.limit (Enters (g.F.Finder.texts l.self.search.finder.now) l.self.search.folders.now l.self.search.heads.now built_in_headers l.file.limit l.more) l.file.place.now l.fn.reading l.fn.lines.items answer
+    → StepsLines l.file.limit (Enters (g.F.Finder.texts l.self.search.finder.now) l.self.search.folders.now l.self.search.heads.now built_in_headers l.file.limit l.more) l.file.place.now l.reading l.line-iterator.rest.items answer
+    → StepsLines l.file.limit (Enters (g.F.Finder.texts l.self.search.finder.now) l.self.search.folders.now l.self.search.heads.now built_in_headers l.file.limit l.more) l.file.place.now l.fn.reading l.fn.lines.items answer
 
 abbrev pub decreases-enter : goal.decreases-enter
 decreases-enter g l = 12 * l.more + 1
