@@ -1,12 +1,14 @@
 #!/usr/bin/env python3
 """Compares layouts, conversions, promotions and arithmetic of integers with those of compiled C.
 
-It makes 2,000 questions for `crates/ct_numbers`, lets gcc compile the same expressions and structs and print what they
-come to, and compares. Where an operator has a fault here, C leaves its value open: then the rule of C11 6.5 is computed
-on whole numbers instead. It prints how many agree, and ends with status 1 where one does not. Without gcc it says so and
-ends with 0. It is no test of `rt ci`."""
+It makes 2,000 different questions for `crates/ct_numbers`: all promotions, the common kinds of all pairs, and drawn ones on
+conversions, operators and layouts of structs, also within one another. gcc compiles the same expressions and structs, which
+print what they come to. Where an operator has a fault here, C leaves its value open: such questions come on top, and for
+them the rule of C11 6.5 is computed on whole numbers instead. It prints how many of both agree, and ends with status 1
+where one does not. Without gcc it says so and ends with 0. It is no test of `rt ci`."""
 import os
 import random
+import re
 import shutil
 import subprocess
 import sys
@@ -73,42 +75,51 @@ def number_text(expression, signed):
     return f'printf("{"%lld" if signed else "%llu"}", ({"long long" if signed else "unsigned long long"}){expression});'
 
 
-def members(rand):
-    names = list(KINDS) + ["pointer"]
-    return [rand.choice(names) + rand.choice(["", "", f"*{rand.randint(1, 9)}"]) for _ in range(rand.randint(1, 6))]
+def declared(word, name):
+    """The declaration of a member of this type: the last length of a word is the outermost array's."""
+    kind, *lengths = word.split("*")
+    of_struct = re.fullmatch(r"struct(\d+)", kind)
+    return f'{f"struct s{of_struct[1]}" if of_struct else c_name(kind)} {name}{"".join(f"[{n}]" for n in reversed(lengths))};'
 
 
-def layout_code(words):
-    fields = []
-    for place, word in enumerate(words):
-        kind, _, length = word.partition("*")
-        fields.append(f"{c_name(kind)} m{place}{f'[{length}]' if length else ''};")
-    parts = ["sizeof(struct s)", "_Alignof(struct s)"] + [f"offsetof(struct s, m{i})" for i in range(len(words))]
+def members(rand, structs):
+    names = list(KINDS) + ["pointer"] + [f"struct{i}" for i in range(structs)] * 4
+    lengths = ["", "", f"*{rand.randint(1, 9)}", f"*{rand.randint(1, 4)}*{rand.randint(1, 4)}"]
+    return [rand.choice(names) + rand.choice(lengths) for _ in range(rand.randint(1, 6))]
+
+
+def layout_code(structs):
+    bodies = [" ".join(declared(word, f"m{place}") for place, word in enumerate(words)) for words in structs]
+    text = " ".join(f"struct s{i} {{ {body} }};" for i, body in enumerate(bodies))
+    last = f"struct s{len(structs) - 1}"
+    parts = [f"sizeof({last})", f"_Alignof({last})"] + [f"offsetof({last}, m{i})" for i in range(len(structs[-1]))]
     prints = ' printf(" "); '.join(f'printf("%zu", {part});' for part in parts)
-    return "{ struct s { " + " ".join(fields) + " }; " + prints + " }"
+    return "{ " + text + " " + prints + " }"
 
 
-def question(rand):
+def promotions():
+    for kind in KINDS:
+        yield f"promote {kind}", f'printf("%s", {PRINT_KIND.format(f"+({c_name(kind)})0")});', None
+    for a in KINDS:
+        for b in KINDS:
+            expression = f"({c_name(a)})0 + ({c_name(b)})0"
+            yield f"common {a} {b}", f'printf("%s", {PRINT_KIND.format(expression)});', None
+
+
+def drawn(rand):
     """A question, and the code that prints its answer, or the answer itself where there is no code."""
-    choice = rand.randrange(10)
+    choice = rand.randrange(8)
     if choice < 3:
         kind, to = rand.choice(["long", "unsigned-long"]), rand.choice(list(KINDS))
         number = number_in(rand, kind)
         return f"convert {number} {to}", number_text(f"({c_name(to)}){literal(number, kind)}", KINDS[to][0] < 0), None
     if choice == 3:
-        kind = rand.choice(list(KINDS))
-        return f"promote {kind}", f'printf("%s", {PRINT_KIND.format(f"+({c_name(kind)})0")});', None
-    if choice == 4:
-        a, b = rand.choice(list(KINDS)), rand.choice(list(KINDS))
-        expression = f"({c_name(a)})0 + ({c_name(b)})0"
-        return f"common {a} {b}", f'printf("%s", {PRINT_KIND.format(expression)});', None
-    if choice == 5:
-        words = members(rand)
-        return "layout " + " ".join(words), layout_code(words), None
+        structs = [members(rand, i) for i in range(rand.randint(1, 3))]
+        return "layout " + " ; ".join(" ".join(words) for words in structs), layout_code(structs), None
     kind = rand.choice(WIDE)
     left = number_in(rand, kind)
     signed = KINDS[kind][0] < 0
-    if choice == 6:
+    if choice == 4:
         operator = rand.choice("+-~!")
         asked = f"unary {operator} {kind} {left}"
         if operator == "-" and signed and left == KINDS[kind][0]:
@@ -122,6 +133,15 @@ def question(rand):
         return asked, None, found
     right_kind = "int" if operator in ("<<", ">>") else kind
     return asked, number_text(f"({literal(left, kind)} {operator} {literal(right, right_kind)})", signed), None
+
+
+def questions(rand):
+    """As many different questions with code as are wanted, and those without that came up between them."""
+    asked = {question: (code, answer) for question, code, answer in promotions()}
+    while sum(code is not None for code, _ in asked.values()) < CASES:
+        question, code, answer = drawn(rand)
+        asked[question] = (code, answer)
+    return [(question, code, answer) for question, (code, answer) in asked.items()]
 
 
 def by_gcc(gcc, work, codes):
@@ -142,7 +162,7 @@ def main():
     folder = os.path.join(os.path.dirname(os.path.dirname(os.path.abspath(__file__))), "crates", "ct_numbers")
     subprocess.run(["rt", "run"], cwd=folder, check=True, stdin=subprocess.DEVNULL, capture_output=True)
     rand = random.Random(20251201)
-    cases = [question(rand) for _ in range(CASES)]
+    cases = questions(rand)
     with tempfile.TemporaryDirectory() as work:
         printed = iter(by_gcc(gcc, work, [code for _, code, _ in cases if code]))
         wanted = [next(printed) if code else answer for _, code, answer in cases]
@@ -151,14 +171,15 @@ def main():
             file.write("".join(asked + "\n" for asked, _, _ in cases))
         program = os.path.join(folder, "out", "ct_numbers")
         lines = subprocess.run([program, path], check=True, capture_output=True, text=True).stdout.splitlines()
-    agree = 0
-    for line, (asked, _, _), answer in zip(lines, cases, wanted):
+    agree = {True: 0, False: 0}
+    for line, (asked, code, _), answer in zip(lines, cases, wanted):
         if line == f"{asked}: {answer}":
-            agree += 1
+            agree[code is not None] += 1
         else:
             print(f"{line}, and not {answer}")
-    print(f"{agree} of {CASES} agree with {gcc}")
-    return 0 if agree == CASES else 1
+    faults = len(cases) - CASES
+    print(f"{agree[True]} of {CASES} agree with {gcc}, and {agree[False]} of {faults} faults with the rules of C11")
+    return 0 if len(lines) == len(cases) and sum(agree.values()) == len(cases) else 1
 
 
 if __name__ == "__main__":

@@ -11,12 +11,12 @@ use Rattle.ct_ctype.specs.Layout.{Table, layout_of, is_open, extent_step, extent
 use Rattle.ct_ctype.proofs.Growing.{layout_of-declared, layout_of-set_cases, parts}
 
 -- the value that an option has before a function is applied
-record Before {A B : Type 0} (f : A → B) (o : Option A) (b : B) : Type 0 where
+pub record Before {A B : Type 0} (f : A → B) (o : Option A) (b : B) : Type 0 where
   pub first : A
   pub is : o ≡ Some first
   pub gives : f first ≡ b
 
-before : {A B : Type 0} (f : A → B) (o : Option A) (b : B) → option_map f o ≡ Some b → Before f o b
+pub before : {A B : Type 0} (f : A → B) (o : Option A) (b : B) → option_map f o ≡ Some b → Before f o b
 before f None b e = absurd (cc)
 before f (Some a) b e = record { first = a; is = refl; gives = cc }
 

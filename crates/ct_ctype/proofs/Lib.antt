@@ -4,3 +4,6 @@ pub mod InRanges
 pub mod Growing
 pub mod Placing
 pub mod Acyclic
+pub mod Limits
+pub mod OneExtent
+pub mod Sizes

@@ -8,6 +8,7 @@ use Rattle.std.specs.Int.{next_multiple_of}
 use Rattle.ct_ctype.specs.declared.types.Member.{Member}
 use Rattle.ct_ctype.specs.declared.types.Extent.{Extent}
 use Rattle.ct_ctype.specs.declared.types.StructLayout.{StructLayout}
+use Rattle.ct_ctype.specs.Ranges.{largest_alignment}
 use Rattle.ct_ctype.specs.Layout.{Table, capped, extent_of, extents_of, placed, end_of, largest, laid_out, IsExtent}
 
 -- ---- numbers that are one, or are both past the limit
@@ -22,16 +23,20 @@ capped_alike x y (inr h) = omega arith
 pub alike_capped : (x n : ℕ) → Alike (x + n) (capped (capped x + n))
 alike_capped x n = ⊎_elim (λ (h : x + n < 1048577). inl (omega arith)) (λ (h : 1048577 ≤ x + n). inr (h, omega arith)) (cases_lt (x + n) 1048577)
 
-plus_alike : (x y n : ℕ) → Alike x y → Alike (x + n) (y + n)
-plus_alike x y n (inl e) = inl (ap (λ z. z + n) e)
-plus_alike x y n (inr h) = inr (omega arith, omega arith)
+pub limit_alike : (x : ℕ) → Alike (capped x) x
+limit_alike x = ⊎_elim (λ (h : x < 1048577). inl (omega arith)) (λ (h : 1048577 ≤ x). inr (omega arith, h)) (cases_lt x 1048577)
+
+pub plus_alike : (x y m n : ℕ) → Alike x y → Alike m n → Alike (x + m) (y + n)
+plus_alike x y m n (inl e) (inl f) = inl (ap₂ (λ z w. z + w) e f)
+plus_alike x y m n (inl e) (inr k) = inr (omega (arith, k.0, k.1), omega (arith, k.0, k.1))
+plus_alike x y m n (inr h) k = inr (omega (arith, h.0, h.1), omega (arith, h.0, h.1))
 
 pub next_alike : (x y a : ℕ) → Alike x y → Alike (next_multiple_of x a) (next_multiple_of y a)
 next_alike x y a (inl e) = inl (ap (λ z. next_multiple_of z a) e)
 next_alike x y a (inr h) = inr (omega arith, omega arith)
 
 after_alike : (x y : ℕ) (e : Extent) → Alike x y → Alike (next_multiple_of x e.alignment + e.size) (next_multiple_of y e.alignment + e.size)
-after_alike x y e h = plus_alike _ _ e.size (next_alike x y e.alignment h)
+after_alike x y e h = plus_alike _ _ e.size e.size (next_alike x y e.alignment h) (inl refl)
 
 placed_alike : (ms : List Member) (es : List Extent) (x y : ℕ) → Alike x y → placed x ms es ≡ placed y ms es
 placed_alike [] es x y h = refl
@@ -78,7 +83,7 @@ pub record Placing (s : Table) (start now : List Member) (i end alignment : ℕ)
   pub same_length : length now ≡ length start
   pub end_bound : end ≤ 1048577
   pub some : 0 < alignment
-  pub bound : alignment ≤ 8
+  pub bound : alignment ≤ largest_alignment
 
 cut : {A : Type 0} (xs : List A) (i : ℕ) (x : A) → i < length xs → x ≡ get_or xs i x → drop i xs ≡ x ∷ drop (i + 1) xs
 cut xs i x lt at =

@@ -66,7 +66,7 @@ truth_of (pos (suc n)) = pos 1
 truth_of (negsuc n) = pos 1
 
 -- to `_Bool` by 6.3.1.2, to another kind by 6.3.1.3: a number in its range stays, an unsigned kind takes any other one
--- modulo 2 ^ width, and a signed kind keeps its low bits
+-- modulo 2 ^ width, and a signed kind keeps its low bits, which is the target's choice (6.3.1.3p3)
 abbrev pub converted : ℤ → IntKind → ℤ
 converted v Boolean = truth_of v
 converted v k = wrapped k v

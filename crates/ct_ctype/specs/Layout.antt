@@ -1,5 +1,5 @@
--- The layout of types. A size or an offset past 1 MiB is given as one more than that, at each step: no later step makes a
--- larger number smaller, so that is the same as at the end.
+-- The layout of types. A size or an offset past 1 MiB is given as one more than that, at each step. The law `exact_sizes`
+-- says that this is the same as at the end.
 use Rattle.std.specs.Prelude.{ℕ, ◌+◌, ◌*◌, ◌/◌, ◌≡◌, ◌<◌, ◌≤◌, if◌then◌else◌, Bool, true, false, List, [], ◌∷◌, map, min, max, fold, find, bytes_eq, Option, Some, None, option_map, option_and_then, slice_get, slice_set}
 use Rattle.std.specs.Int.{next_multiple_of}
 use Rattle.ct_ctype.specs.declared.kinds.IntKind.{IntKind}
@@ -8,7 +8,7 @@ use Rattle.ct_ctype.specs.declared.types.CType.TheOpen.{CType-F}
 use Rattle.ct_ctype.specs.declared.types.Member.{Member}
 use Rattle.ct_ctype.specs.declared.types.Extent.{Extent}
 use Rattle.ct_ctype.specs.declared.types.StructLayout.{StructLayout}
-use Rattle.ct_ctype.specs.Ranges.{width}
+use Rattle.ct_ctype.specs.Ranges.{width, pointer_bytes, largest_alignment}
 
 -- the structs by their numbers, of which some are complete
 abbrev pub Table : Type 0
@@ -18,7 +18,7 @@ Table = List (Option StructLayout)
 abbrev pub capped : ℕ → ℕ
 capped n = min n 1048577
 
--- a scalar aligns at its size (6.2.8)
+-- the target: a scalar aligns at its size (6.2.8)
 abbrev pub scalar : ℕ → Extent
 scalar bytes = record { size = bytes; alignment = bytes }
 
@@ -32,16 +32,16 @@ repeated n element = record { size = capped (n * element.size); alignment = elem
 
 -- the layout of a struct that is complete
 abbrev pub layout_of : Table → ℕ → Option StructLayout
-layout_of s which = option_and_then (λ (l : Option StructLayout). l) (slice_get s which)
+layout_of s which = option_and_then (λ (layout : Option StructLayout). layout) (slice_get s which)
 
 -- one level of a type, with the extents of its parts
 abbrev pub extent_step : Table → CType-F (Option Extent) (Unit {0}) → Option Extent
 extent_step s CType-F.Void = None
 extent_step s (CType-F.Int k) = Some (scalar (bytes_of k))
-extent_step s (CType-F.Pointer pointee constant) = Some (scalar 8)
+extent_step s (CType-F.Pointer pointee constant) = Some (scalar pointer_bytes)
 extent_step s (CType-F.Array element None) = None
 extent_step s (CType-F.Array element (Some n)) = option_map (repeated n) element
-extent_step s (CType-F.Struct which) = option_map (λ l. l.extent) (layout_of s which)
+extent_step s (CType-F.Struct which) = option_map (λ layout. layout.extent) (layout_of s which)
 extent_step s (CType-F.Function f) = None
 
 -- the extent of a type; a type that is incomplete, `void` and a function have none
@@ -51,34 +51,34 @@ extent_of s = fold-CType (Option Extent) (Unit {0}) (extent_step s) (λ f. tt)
 -- the extents of the members, where each has one
 abbrev pub extents_of : Table → List Member → Option (List Extent)
 extents_of s [] = Some []
-extents_of s (m ∷ ms) = option_and_then (λ e. option_map (λ es. e ∷ es) (extents_of s ms)) (extent_of s m.kind)
+extents_of s (member ∷ members) = option_and_then (λ e. option_map (λ extents. e ∷ extents) (extents_of s members)) (extent_of s member.kind)
 
 -- the members in order, each at the next multiple of its alignment, the first from this place on (6.7.2.1p14 and 6.7.2.1p15)
 abbrev pub placed : ℕ → List Member → List Extent → List Member
-placed from [] es = []
-placed from (m ∷ ms) [] = []
-placed from (m ∷ ms) (e ∷ es) =
+placed from [] extents = []
+placed from (member ∷ members) [] = []
+placed from (member ∷ members) (e ∷ extents) =
     let at = next_multiple_of from e.alignment in
-    record m { offset = capped at } ∷ placed (at + e.size) ms es
+    record member { offset = capped at } ∷ placed (at + e.size) members extents
 
 -- where the last of them ends
 abbrev pub end_of : ℕ → List Extent → ℕ
 end_of from [] = from
-end_of from (e ∷ es) = end_of (next_multiple_of from e.alignment + e.size) es
+end_of from (e ∷ extents) = end_of (next_multiple_of from e.alignment + e.size) extents
 
 -- the largest alignment
 abbrev pub largest : ℕ → List Extent → ℕ
-largest so_far es = fold max so_far (map (λ e. e.alignment) es)
+largest so_far extents = fold max so_far (map (λ e. e.alignment) extents)
 
 -- the size is rounded up to the largest alignment (6.7.2.1p17)
 abbrev pub struct_layout : List Member → List Extent → StructLayout
-struct_layout ms es =
-    let alignment = largest 1 es in
-    record { members = placed 0 ms es; extent = record { size = capped (next_multiple_of (end_of 0 es) alignment); alignment = alignment } }
+struct_layout members extents =
+    let alignment = largest 1 extents in
+    record { members = placed 0 members extents; extent = record { size = capped (next_multiple_of (end_of 0 extents) alignment); alignment = alignment } }
 
 -- the layout of a struct with these members, where each has a size
 abbrev pub laid_out : Table → List Member → Option StructLayout
-laid_out s ms = option_map (struct_layout ms) (extents_of s ms)
+laid_out s members = option_map (struct_layout members) (extents_of s members)
 
 -- a struct stands here, and has no members yet
 abbrev pub is_open : Option (Option StructLayout) → Bool
@@ -88,14 +88,14 @@ is_open None = false
 
 -- the table with these members as those of the struct, where it is open and each of them has a size
 abbrev pub completed : Table → ℕ → List Member → Option Table
-completed s which ms =
-    if is_open (slice_get s which) then option_map (λ layout. slice_set s which (Some layout)) (laid_out s ms) else None
+completed s which members =
+    if is_open (slice_get s which) then option_map (λ layout. slice_set s which (Some layout)) (laid_out s members) else None
 
 -- what each extent keeps
 pub record IsExtent (e : Extent) : Type 0 where
   pub size : e.size ≤ 1048577
   pub some : 0 < e.alignment
-  pub alignment : e.alignment ≤ 8
+  pub alignment : e.alignment ≤ largest_alignment
 
 -- what each complete struct keeps: its layout is that which its members have over the whole table
 pub record IsKept (s : Table) (layout : StructLayout) : Type 0 where
@@ -120,7 +120,7 @@ held_struct = fold-CType (Option ℕ) (Unit {0}) held_step (λ f. tt)
 -- no struct holds itself, also through others: each is higher than those that its members hold
 pub record IsAcyclic (s : Table) : Type 0 where
   pub height : ℕ → ℕ
-  pub falls : (which : ℕ) (layout : StructLayout) (k : ℕ) (m : Member) (inner : ℕ) → layout_of s which ≡ Some layout → slice_get layout.members k ≡ Some m → held_struct m.kind ≡ Some inner → height inner < height which
+  pub falls : (which : ℕ) (layout : StructLayout) (k : ℕ) (member : Member) (inner : ℕ) → layout_of s which ≡ Some layout → slice_get layout.members k ≡ Some member → held_struct member.kind ≡ Some inner → height inner < height which
 
 pub record IsSound (s : Table) : Type 0 where
   pub kept : AllKept s
@@ -128,7 +128,7 @@ pub record IsSound (s : Table) : Type 0 where
 
 -- the offset of the member of this name; of the first, if there are several
 abbrev pub member_offset : List ℕ → List Member → Option ℕ
-member_offset name ms = option_map (λ (m : Member). m.offset) (find (λ (m : Member). bytes_eq m.name name) ms)
+member_offset name members = option_map (λ (member : Member). member.offset) (find (λ (member : Member). bytes_eq member.name name) members)
 
 abbrev pub offset_in : Table → ℕ → List ℕ → Option ℕ
 offset_in s which name = option_and_then (λ (layout : StructLayout). member_offset name layout.members) (layout_of s which)

@@ -41,7 +41,7 @@ moved_left k a product =
 abbrev pub shifted_left : IntKind → ℤ → ℤ → Result ℤ FaultKind
 shifted_left k a count = if is_count k count then moved_left k a (a *ℤ pos (2 ^ unsigned_abs count)) else Err ShiftRange
 
--- a / 2 ^ count, rounded down (6.5.7p5)
+-- a / 2 ^ count; the target: rounded down also for negative numbers (6.5.7p5)
 abbrev pub shifted_right : IntKind → ℤ → ℤ → Result ℤ FaultKind
 shifted_right k a count = if is_count k count then Ok (int_div_euclid a (pos (2 ^ unsigned_abs count))) else Err ShiftRange
 

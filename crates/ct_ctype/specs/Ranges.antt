@@ -1,4 +1,4 @@
--- The kinds of integers of the target: their widths, ranges and bits.
+-- The target: the kinds of integers, their widths, ranges and bits, and the numbers of bytes that layouts rest on.
 use Rattle.std.specs.Prelude.{ℕ, ◌-◌, ◌^◌, Bool, true, false, ◌&&◌, if◌then◌else◌, ℤ, pos, neg_ℤ, ◌-ℤ◌, int_le, ◌≤ℤ◌, unsigned_abs}
 use Rattle.std.specs.Int.{int_rem_euclid}
 use Rattle.ct_ctype.specs.declared.kinds.IntKind.{IntKind}
@@ -18,6 +18,14 @@ width Long = 64
 width UnsignedLong = 64
 width LongLong = 64
 width UnsignedLongLong = 64
+
+-- the bytes of a pointer of the target
+abbrev pub pointer_bytes : ℕ
+pointer_bytes = 8
+
+-- no type of the target aligns at more bytes
+abbrev pub largest_alignment : ℕ
+largest_alignment = 8
 
 -- 6.2.5p4 and 6.2.5p6; plain `char` is signed (6.2.5p15)
 abbrev pub is_signed : IntKind → Bool

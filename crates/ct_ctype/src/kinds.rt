@@ -1,5 +1,8 @@
 //! The kinds of integers, their ranges and their bits.
 
+/// The bytes of a pointer.
+pub(crate) const POINTER_BYTES: u64 = 8;
+
 /// The kinds of integers (C11 6.2.5p4, 6.2.5p6 and 6.2.5p15). Plain `char` is signed.
 #[derive(Clone, Copy, Debug, PartialEq, Eq)]
 pub enum IntKind {
@@ -22,7 +25,7 @@ impl IntKind {
     ghost use Rattle.std.specs.Prelude.{◌≡◌, ◌^◌, ◌↔◌, pos, IsTrue};
     ghost use Rattle.ct_ctype.specs.Ranges as ranges;
 
-    /// Whether the kind holds negative numbers.
+    /// Whether the kind holds negative numbers (C11 6.2.5p4 and 6.2.5p6).
     pub fn is_signed(self) -> bool
         ensures { result ≡ ranges.is_signed self }
     {
@@ -56,7 +59,7 @@ impl IntKind {
         }
     }
 
-    /// The least number that it holds.
+    /// The least number that it holds, in two's complement (C11 6.2.6.2).
     pub fn least(self) -> i128
         ensures { result ≡ ranges.least self }
     {
@@ -74,7 +77,7 @@ impl IntKind {
         }
     }
 
-    /// The greatest number that it holds.
+    /// The greatest number that it holds (C11 6.2.6.2).
     pub fn greatest(self) -> i128
         ensures { result ≡ ranges.greatest self }
     {
@@ -95,16 +98,17 @@ impl IntKind {
     pub fn count(self) -> i128
         ensures { result ≡ pos (2 ^ ranges.width self) }
     {
-        match self.width() {
-            1 => 2,
-            8 => 0x100,
-            16 => 0x1_0000,
-            32 => 0x1_0000_0000,
-            _ => 0x1_0000_0000_0000_0000,
+        match self {
+            IntKind::Bool => 2,
+            IntKind::Char | IntKind::SignedChar | IntKind::UnsignedChar => 0x100,
+            IntKind::Short | IntKind::UnsignedShort => 0x1_0000,
+            IntKind::Int | IntKind::UnsignedInt => 0x1_0000_0000,
+            IntKind::Long | IntKind::UnsignedLong | IntKind::LongLong | IntKind::UnsignedLongLong =>
+                0x1_0000_0000_0000_0000,
         }
     }
 
-    /// Whether a number is in the range of the kind.
+    /// Whether a number is in the range of the kind (C11 6.2.6.2).
     pub fn holds(self, v: i128) -> bool
         ensures value { result ≡ ranges.is_in_range self v }
         ensures in_range { IsTrue result ↔ ranges.InRange self v }

@@ -10,7 +10,8 @@ use crate::kinds::IntKind;
 use ct_base::{BinaryOp, FaultKind, UnaryOp};
 
 /// The result of an operator of two numbers of the kind `k`. The count of a shift may be any
-/// number.
+/// number. Results of unsigned kinds wrap (C11 6.2.5p9), quotients are cut towards zero (C11
+/// 6.5.5p6), right shifts round down, and comparisons give 1 or 0.
 ///
 /// `SignedOverflow` is a result outside a signed kind (C11 6.5p5), and the quotient and the
 /// remainder of the least number by -1. `DivideByZero` is `/` or `%` by 0 (C11 6.5.5p5).
@@ -43,7 +44,8 @@ pub fn binary(op: BinaryOp, k: IntKind, left: i128, right: i128) -> Result<i128,
     }
 }
 
-/// The result of an operator of one number of the kind `k`. `SignedOverflow` is a result outside
+/// The result of an operator of one number of the kind `k`. `!` gives 1 for 0, and else 0 (C11
+/// 6.5.3.3p5). Minus of an unsigned kind wraps (C11 6.2.5p9). `SignedOverflow` is a result outside
 /// a signed kind (C11 6.5p5).
 #[tactic(auto, unfolding(crate::specs::Operation::unary_result))]
 pub fn unary(op: UnaryOp, k: IntKind, v: i128) -> Result<i128, FaultKind>

@@ -1,11 +1,16 @@
 //! Structs and the layout of types.
 
-ghost use Rattle.std.specs.Prelude.{◌≡◌, ◌-◌, ◌+◌, ◌<◌, ◌≤◌, ◌^◌, ◌++◌, ◌∷◌, [], length, None, IfOk, IfSome, is_some, unwrap_or, slice_get, OnOk, OnErr, option_map};
+ghost use Rattle.std.specs.Prelude.{◌≡◌, ℕ, ◌-◌, ◌+◌, ◌<◌, ◌≤◌, ◌^◌, ◌++◌, ◌∷◌, [], List, map, length, Some, None, IfOk, IfSome, is_some, unwrap_or, slice_get, OnOk, OnErr, option_map};
 ghost use Rattle.std.specs.Int.{next_multiple_of};
 ghost use Rattle.std.specs.Option.{option_copied};
+ghost use Rattle.ct_ctype.specs.Ranges.{largest_alignment};
+ghost use Rattle.ct_ctype.specs.declared.types.CType.{CType};
+ghost use Rattle.ct_ctype.specs.declared.types.Extent.{Extent};
+ghost use Rattle.ct_ctype.specs.declared.types.StructLayout.{StructLayout};
 ghost use Rattle.ct_ctype.specs.Layout as spec;
+ghost use Rattle.ct_ctype.specs.Sizes.{HasExtent, HaveExtents, limited, offsets};
 
-use crate::kinds::IntKind;
+use crate::kinds::{IntKind, POINTER_BYTES};
 use crate::types::{CType, Extent, Member, StructLayout};
 use ct_base::{Items, Mem};
 use std::alloc::Global;
@@ -64,8 +69,9 @@ impl Structs {
         self.layouts.len()
     }
 
-    /// Gives a struct its members, and sets their offsets. This is false, and changes nothing,
-    /// exactly where there is no such struct, it is complete already, or a member has no size.
+    /// Gives a struct its members, and sets their offsets (C11 6.7.2.1p14 to p17). This is false,
+    /// and changes nothing, exactly where there is no such struct, it is complete already, or a
+    /// member has no size.
     /// The struct itself has none yet, so no struct holds itself.
     pub fn complete(&mut self, which: u32, members: Vec<Member>) -> bool
         ensures answer { result ≡ is_some (spec.completed self.old which members.items) }
@@ -117,13 +123,23 @@ pub fn align_of(t: &CType, s: &Structs) -> Option<u64>
     Some(extent(t, s)?.alignment)
 }
 
-/// The bytes before a member of a struct. None is for a member that is not there, and for a
-/// struct that is not there or not complete. An offset past 1,048,576 is given as 1,048,577.
+/// The bytes before a member of a struct (C11 6.7.2.1p15). None is for a member that is not
+/// there, and for a struct that is not there or not complete. An offset past 1,048,576 is given
+/// as 1,048,577.
 pub fn offset_of(s: &Structs, which: u32, member: &[u8]) -> Option<u64>
     ensures { result ≡ spec.offset_in s.now which member.now }
 {
     find_member(s.layout(which)?.members.as_slice(), member)
 }
+
+/// Sizes and offsets are limited at the end alone: they are those without a limit, given as
+/// 1,048,577 where they are past 1,048,576.
+pub fn exact_sizes()
+    ensures sized { (s : spec.Table) → spec.IsSound s → (t : CType) (e : Extent) → spec.extent_of s t ≡ Some e → (x : Extent) × HasExtent s t x × (e ≡ limited x) }
+    ensures no_size { (s : spec.Table) (t : CType) → spec.extent_of s t ≡ None → (x : Extent) → HasExtent s t x → ⊥ }
+    ensures one { (s : spec.Table) (t : CType) (x y : Extent) → HasExtent s t x → HasExtent s t y → x ≡ y }
+    ensures offsets { (s : spec.Table) → spec.IsSound s → (which : ℕ) (layout : StructLayout) → spec.layout_of s which ≡ Some layout → (extents : List Extent) × HaveExtents s layout.members extents × (map (λ member. member.offset) layout.members ≡ map spec.capped (offsets 0 extents)) }
+{}
 
 /// The offset of the first member of a name.
 fn find_member(members: &[Member], name: &[u8]) -> Option<u64>
@@ -142,7 +158,7 @@ fn extent(t: &CType, s: &Structs) -> Option<Extent>
     match t {
         CType::Void | CType::Function(_) | CType::Array(_, None) => None,
         CType::Int(k) => Some(scalar(bytes_of(*k))),
-        CType::Pointer(_, _) => Some(scalar(8)),
+        CType::Pointer(_, _) => Some(scalar(POINTER_BYTES)),
         CType::Array(element, Some(count)) => Some(repeated(*count, extent(element.get(), s)?)),
         CType::Struct(which) => Some(s.layout(*which)?.extent),
     }
@@ -174,9 +190,9 @@ fn laid_out(s: &Structs, mut members: Vec<Member>) -> Option<StructLayout>
 fn aligned(place: u64, alignment: u64) -> u64
     requires place { place ≤ 1048577 }
     requires some { 0 < alignment }
-    requires alignment { alignment ≤ 8 }
+    requires alignment { alignment ≤ largest_alignment }
     ensures value { result ≡ next_multiple_of place alignment }
-    ensures bound { result < place + 8 }
+    ensures bound { result < place + largest_alignment }
 {
     place + (alignment - place % alignment) % alignment
 }

@@ -475,9 +475,18 @@ fn bits_are_those_of_two_complement(rt: HostRuntime) {
     }
 }
 
+type UnaryRow = (UnaryOp, IntKind, i128, Result<i128, FaultKind>);
+
+/// Compares the result of an operator, of an operand in the range of its kind.
+fn check_unary(rt: &impl Abort, row: UnaryRow) {
+    let (op, k, v, wanted) = row;
+    assert!(rt; k.holds(v));
+    assert_eq!(rt; unary(op, k, v), wanted);
+}
+
 #[test]
 fn operators_of_one_number(rt: HostRuntime) {
-    let rows: [(UnaryOp, IntKind, i128, Result<i128, FaultKind>); 14] = [
+    let rows: [UnaryRow; 14] = [
         (UnaryOp::Plus, Int, -5, Ok(-5)),
         (UnaryOp::Minus, Int, 5, Ok(-5)),
         (
@@ -508,8 +517,44 @@ fn operators_of_one_number(rt: HostRuntime) {
         (UnaryOp::Not, Int, -7, Ok(0)),
         (UnaryOp::Not, UnsignedLong, 18446744073709551615, Ok(0)),
     ];
-    for (op, k, v, wanted) in rows {
-        assert!(rt; k.holds(v));
-        assert_eq!(rt; unary(op, k, v), wanted);
+    for row in rows {
+        check_unary(&rt, row);
+    }
+}
+
+#[test]
+fn operators_of_two_numbers_in_kinds_narrower_than_int(rt: HostRuntime) {
+    let rows: [BinaryRow; 13] = [
+        (BinaryOp::Multiply, Short, 181, 181, Ok(32761)),
+        (BinaryOp::Multiply, Short, 182, 182, OVER),
+        (BinaryOp::Multiply, UnsignedShort, 256, 257, Ok(256)),
+        (BinaryOp::Add, UnsignedChar, 200, 100, Ok(44)),
+        (BinaryOp::Subtract, Char, -128, 1, OVER),
+        (BinaryOp::Add, Bool, 1, 1, Ok(0)),
+        (BinaryOp::Divide, SignedChar, -128, -1, OVER),
+        (BinaryOp::ShiftLeft, SignedChar, 63, 1, Ok(126)),
+        (BinaryOp::ShiftLeft, SignedChar, 64, 1, RANGE),
+        (BinaryOp::ShiftLeft, UnsignedChar, 255, 7, Ok(128)),
+        (BinaryOp::ShiftLeft, Short, 1, 16, RANGE),
+        (BinaryOp::ShiftRight, Short, -1, 15, Ok(-1)),
+        (BinaryOp::ShiftRight, Short, -1, 16, RANGE),
+    ];
+    for row in rows {
+        check_binary(&rt, row);
+    }
+}
+
+#[test]
+fn operators_of_one_number_in_kinds_narrower_than_int(rt: HostRuntime) {
+    let rows: [UnaryRow; 6] = [
+        (UnaryOp::Complement, UnsignedShort, 0, Ok(65535)),
+        (UnaryOp::Complement, SignedChar, 127, Ok(-128)),
+        (UnaryOp::Complement, Bool, 0, Ok(1)),
+        (UnaryOp::Minus, Char, -128, OVER),
+        (UnaryOp::Minus, Short, -32767, Ok(32767)),
+        (UnaryOp::Minus, UnsignedChar, 1, Ok(255)),
+    ];
+    for row in rows {
+        check_unary(&rt, row);
     }
 }

@@ -10,7 +10,9 @@ use ct_ctype::{IntKind, binary, common, convert, promote, unary};
 use std::alloc::Global;
 
 /// Appends the answer to a question: `convert NUMBER KIND`, `promote KIND`, `common KIND KIND`,
-/// `binary OPERATOR KIND NUMBER NUMBER`, `unary OPERATOR KIND NUMBER` or `layout MEMBER ..`.
+/// `binary OPERATOR KIND NUMBER NUMBER`, `unary OPERATOR KIND NUMBER` or `layout MEMBER .. ; MEMBER ..`,
+/// which asks for the last of several structs. It is `no answer` for any other line, for a number outside
+/// the kind of its operand, and for a struct with a member that has no size.
 pub fn push_answer(alloc: Global, line: &str, out: &mut String) -> Mem<()> {
     let words: Vec<&str> = line.split_whitespace().collect(alloc)?;
     match words.as_slice() {
