@@ -1,18 +1,34 @@
 -- The place of the first token that is left out.
-use Rattle.std.proofs.Common.{◌≡◌, ℕ, ◌<◌, suc, List, ◌∷◌, ◌++◌, All, length, get_or, take, drop, sym, ap, ◌∙◌, arith}
+use Rattle.std.proofs.Common.{◌≡◌, ℕ, ◌<◌, suc, List, [], ◌∷◌, Option, None, Some, All, length, get_or, take, drop, sym, subst, arith, get_or-take}
+use Rattle.std.specs.Prelude.{MatchOption}
+use Rattle.std.specs.List.{AllWithin, HoldsAt}
 use Rattle.std.proofs.Math.Seq.{split_at}
 use Rattle.std.proofs.lemmas.List.{length-take-le}
+use Rattle.std.proofs.lemmas.List.Elements.{All-from_all_within}
 use Rattle.ct_base.specs.declared.lexical.Token.{Token}
 use Rattle.ct_left_out.specs.Unsupported.{IsUnsupported, IsFirst}
 
-pub first_at : (tokens : List Token) (place : ℕ) (token : Token) → place < length tokens → token ≡ get_or tokens place token → All (λ t. IsUnsupported t → ⊥) (take place tokens) → IsUnsupported token → IsFirst tokens place
-first_at tokens place token within at so_far h =
+abbrev pub IsSupported : Token → Type 0
+IsSupported token = IsUnsupported token → ⊥
+
+first_at : (tokens : List Token) (place : ℕ) → place < length tokens → HoldsAt IsUnsupported tokens place → AllWithin IsSupported tokens 0 place → IsFirst tokens place
+first_at [] place within h so_far = absurd (omega (arith, within))
+first_at (t ∷ tokens) place within h so_far =
+    let all = t ∷ tokens in
+    let count : length (take place all) ≡ place = length-take-le place all (omega arith) in
     record {
-      before = take place tokens;
-      token = token;
-      after = drop (suc place) tokens;
-      split = split_at tokens place token within ∙ ap (λ t. take place tokens ++ t ∷ drop (suc place) tokens) (sym at);
-      place_is = sym (length-take-le place tokens (omega arith));
-      supported = so_far;
-      unsupported = h;
+      before = take place all;
+      token = get_or all place t;
+      after = drop (suc place) all;
+      split = split_at all place t within;
+      place_is = sym count;
+      supported = All-from_all_within IsSupported (take place all) (λ k d low high.
+          let below : k < place = omega (arith, count, high) in
+          subst IsSupported (sym (get_or-take place all k d below)) (so_far k d low below));
+      unsupported = h t;
     }
+
+-- by what a search tells: where it finds none, and where it finds the first
+pub first_of_search : (tokens : List Token) (found : Option ℕ) → MatchOption found (AllWithin IsSupported tokens 0 (length tokens)) (λ place. (place < length tokens) × HoldsAt IsUnsupported tokens place × AllWithin IsSupported tokens 0 place) → MatchOption found (All IsSupported tokens) (IsFirst tokens)
+first_of_search tokens None h = All-from_all_within IsSupported tokens h
+first_of_search tokens (Some place) h = first_at tokens place h.0 h.1 h.2

@@ -4,9 +4,7 @@ use Rattle.std.specs.List.{AllByRecursion}
 use Rattle.std.proofs.lemmas.List.Elements.{recursion_from_All}
 use Rattle.ct_base.specs.declared.lexical.Token.{Token}
 use Rattle.ct_left_out.specs.Unsupported.{IsUnsupported, IsFirst}
-
-abbrev IsSupported : Token → Type 0
-IsSupported token = IsUnsupported token → ⊥
+use Rattle.ct_left_out.proofs.First.{IsSupported}
 
 -- what stands before the first one has one length
 same_before : (xs ys : List Token) (t u : Token) (r s : List Token) → AllByRecursion IsSupported xs → AllByRecursion IsSupported ys → IsUnsupported t → IsUnsupported u → xs ++ t ∷ r ≡ ys ++ u ∷ s → length xs ≡ length ys

@@ -5,7 +5,7 @@ mod law;
 #[cfg(test)]
 mod tests;
 
-ghost use Rattle.std.specs.Prelude.{◌≡◌, IfOk, MatchOption, All};
+ghost use Rattle.std.specs.Prelude.{◌≡◌, MatchOption, All};
 ghost use Rattle.std.specs.Bool.{MatchBool};
 ghost use Rattle.std.specs.List.{list_any};
 ghost use Rattle.std.specs.Str.{bytes_eq};
@@ -14,9 +14,8 @@ ghost use Rattle.ct_syntax.specs.Words.{is_left_out};
 ghost use Rattle.ct_left_out.specs.Unsupported.{IsUnsupported, IsUnsupportedText, IsFirst};
 
 pub use crate::law::one_first;
-use ct_base::{Mem, Token, TokenKind};
-use ct_token::{characters, integer};
-use std::alloc::Global;
+use ct_base::{Token, TokenKind};
+use ct_token::{character_count, integer};
 
 /// The keywords of C and of its compilers that are left out (C11 6.4.1), and `__func__` (6.4.2.2).
 const LEFT_OUT: [&[u8]; 17] = [
@@ -53,49 +52,39 @@ pub fn is_left_out_word(text: &[u8]) -> bool
 }
 
 /// Whether a text spells no bytes, or other than one.
-fn spells_no_character(alloc: Global, text: &[u8]) -> Mem<bool>
-    ensures { IfOk result (λ left_out. MatchBool left_out (IsUnsupportedText kind.Char text.now) (IsUnsupportedText kind.Char text.now → ⊥)) }
+fn spells_no_character(text: &[u8]) -> bool
+    ensures { MatchBool result (IsUnsupportedText kind.Char text.now) (IsUnsupportedText kind.Char text.now → ⊥) }
 {
-    match characters(alloc, text)? {
-        Some(bytes) => Ok(bytes.len() != 1),
-        None => Ok(true),
-    }
+    character_count(text) != Some(1)
 }
 
 /// Whether a text spells no bytes.
-fn spells_nothing(alloc: Global, text: &[u8]) -> Mem<bool>
-    ensures { IfOk result (λ left_out. MatchBool left_out (IsUnsupportedText kind.Text text.now) (IsUnsupportedText kind.Text text.now → ⊥)) }
+fn spells_nothing(text: &[u8]) -> bool
+    ensures { MatchBool result (IsUnsupportedText kind.Text text.now) (IsUnsupportedText kind.Text text.now → ⊥) }
 {
-    match characters(alloc, text)? {
-        Some(_) => Ok(false),
-        None => Ok(true),
-    }
+    character_count(text).is_none()
 }
 
 /// Whether a token is left out.
-fn is_unsupported(alloc: Global, token: &Token) -> Mem<bool>
-    ensures { IfOk result (λ left_out. MatchBool left_out (IsUnsupported token.now) (IsUnsupported token.now → ⊥)) }
+fn is_unsupported(token: &Token) -> bool
+    ensures { MatchBool result (IsUnsupported token.now) (IsUnsupported token.now → ⊥) }
 {
     let text = token.text.as_slice();
     match token.kind {
-        TokenKind::Name => Ok(is_left_out_word(text)),
-        TokenKind::Number => Ok(integer(text).is_none()),
-        TokenKind::Char => spells_no_character(alloc, text),
-        TokenKind::Text => spells_nothing(alloc, text),
-        TokenKind::Punct | TokenKind::Other | TokenKind::Line => Ok(false),
+        TokenKind::Name => is_left_out_word(text),
+        TokenKind::Number => integer(text).is_none(),
+        TokenKind::Char => spells_no_character(text),
+        TokenKind::Text => spells_nothing(text),
+        TokenKind::Punct | TokenKind::Other | TokenKind::Line => false,
     }
 }
 
 /// The place of the first of these tokens that is left out of the language, counted from 0: a keyword, a
 /// number that is no integer constant of 64 bits, a character constant or string literal for which
-/// `characters` has no bytes, or a character constant of several bytes. None where there is none.
-pub fn unsupported(alloc: Global, tokens: &[Token]) -> Mem<Option<usize>>
-    ensures { IfOk result (λ found. MatchOption found (All (λ t. IsUnsupported t → ⊥) tokens.now) (IsFirst tokens.now)) }
+/// `characters` has no bytes, or a character constant of several bytes. None where there is none. It takes
+/// no memory.
+pub fn unsupported(tokens: &[Token]) -> Option<usize>
+    ensures { MatchOption result (All (λ t. IsUnsupported t → ⊥) tokens.now) (IsFirst tokens.now) }
 {
-    for (place, token) in tokens.iter().enumerate() {
-        if is_unsupported(alloc, token)? {
-            return Ok(Some(place));
-        }
-    }
-    Ok(None)
+    tokens.iter().position(is_unsupported)
 }

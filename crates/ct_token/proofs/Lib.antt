@@ -15,3 +15,4 @@ pub mod Telling
 pub mod Unique
 pub mod Numbers
 pub mod Decoding
+pub mod Counting

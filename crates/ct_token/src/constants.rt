@@ -281,6 +281,22 @@ fn decoded(alloc: Global, quote: u8, inside: &[u8]) -> Mem<Option<Vec<u8>>>
     Ok(Some(bytes))
 }
 
+/// How many bytes a text between these quotes spells, where it spells any.
+fn decoded_count(quote: u8, inside: &[u8]) -> Option<usize>
+    ensures { MatchOption result
+        ((bytes : List ℕ) → Spells quote inside.now bytes → ⊥)
+        (λ count. (bytes : List ℕ) × Spells quote inside.now bytes × (length bytes ≡ count)) }
+{
+    let mut count = 0;
+    let mut rest = inside;
+    while !rest.is_empty() {
+        let element = element_of(quote, rest)?;
+        count += 1;
+        rest = &rest[element.count..];
+    }
+    Some(count)
+}
+
 /// What stands between the quotes of a text, with its quote.
 fn between_quotes(text: &[u8]) -> Option<(u8, &[u8])>
     ensures { MatchOption result
@@ -313,4 +329,19 @@ pub fn characters(alloc: Global, text: &[u8]) -> Mem<Option<Vec<u8>>>
         return Ok(None);
     }
     Ok(Some(bytes))
+}
+
+/// How many bytes a character constant or a string literal stands for, where `characters` has bytes of
+/// it (C11 6.4.4.4, 6.4.5). It takes no memory.
+pub fn character_count(text: &[u8]) -> Option<usize>
+    ensures { MatchOption result
+        ((bytes : List ℕ) → Decodes text.now bytes → ⊥)
+        (λ count. (bytes : List ℕ) × Decodes text.now bytes × (length bytes ≡ count)) }
+{
+    let (quote, inside) = between_quotes(text)?;
+    let count = decoded_count(quote, inside)?;
+    if quote == b'\'' && count == 0 {
+        return None;
+    }
+    Some(count)
 }

@@ -15,7 +15,7 @@ ghost use Rattle.ct_token.specs.Lines.{newlines};
 ghost use Rattle.ct_base.specs.Answers.{IfFault};
 ghost use Rattle.ct_base.specs.declared.lexical.Token.{Token};
 
-pub use crate::constants::{Literal, characters, integer};
+pub use crate::constants::{Literal, character_count, characters, integer};
 use crate::lines::join_lines;
 use crate::scan::{Front, front_of};
 use ct_base::{Bytes, Fail, Out, Span, Token};

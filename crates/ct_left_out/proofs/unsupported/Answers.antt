@@ -1,25 +1,11 @@
-use Rattle.std.proofs.Common.{take, subst, sym, arith}
-use Rattle.std.proofs.lemmas.Bool.{MatchBool-at_true, MatchBool-at_false}
-use Rattle.std.proofs.lemmas.List.{take_all}
-use Rattle.std.proofs.lemmas.List.Elements.{All-more, All-same}
+use Rattle.std.proofs.Common.{rules}
+use Rattle.std.proofs.lemmas.Iterator.{YieldsList-from_slice, IsFirst-from_position}
 use Rattle.ct_left_out.specs.Unsupported.{IsUnsupported}
-use Rattle.ct_left_out.proofs.First.{first_at}
+use Rattle.ct_left_out.proofs.First.{IsSupported, first_of_search}
 use Rattle.ct_left_out.proofs.unsupported.Goals as goal
-
-pub returns-then-branch : goal.returns-then-branch
-returns-then-branch c =
-    let token = c.index-tokens-place.result in
-    first_at c.args.tokens.now c.loop-place.place token (omega arith) c.index-tokens-place.is c.loop-place.invariant
-    (MatchBool-at_true (IsUnsupported token) (IsUnsupported token → ⊥) c.if-branch.true c.in_ok-is_unsupported.ensures)
-
-pub loop-place-preserved : goal.loop-place-preserved
-loop-place-preserved c =
-    let tokens = c.args.tokens.now in
-    let token = c.index-tokens-place.result in
-    All-more (λ t. IsUnsupported t → ⊥) tokens c.loop-place.place token (omega arith) c.loop-place.invariant
-    (subst (λ t. IsUnsupported t → ⊥) c.index-tokens-place.is
-    (MatchBool-at_false (IsUnsupported token) (IsUnsupported token → ⊥) c.if-branch.false c.in_ok-is_unsupported.ensures))
+use borrow.Author.Tests.{tests}
 
 pub returns : goal.returns
 returns c =
-    All-same (λ t. IsUnsupported t → ⊥) c.args.tokens.now (take c.loop-place.place c.args.tokens.now) (sym (take_all c.loop-place.place c.args.tokens.now (omega arith))) c.loop-place.invariant
+    first_of_search c.args.tokens.now c.position.result
+    (IsFirst-from_position _ _ _ IsUnsupported IsSupported c.position.ensures.ran (YieldsList-from_slice c.args.tokens.now cc) (λ x q k. search (rules, tests)) (λ x q k. search (rules, tests)))

@@ -1,6 +1,6 @@
 //! What small constants and strings stand for, worked out by hand (C11 6.4.4.1, 6.4.4.4, 6.4.5).
 
-use crate::{characters, integer};
+use crate::{character_count, characters, integer};
 use std::test::Fail;
 
 /// The value of a constant, whether it is decimal, whether it has a `u`, and how many `l`.
@@ -109,6 +109,28 @@ fn constants_and_strings_spell_bytes(rt: HostRuntime) -> Result<(), Fail> {
             (None, None) => {}
             _ => assert!(&rt; false, "in {text:?}"),
         }
+    }
+    Ok(())
+}
+
+#[test]
+fn bytes_of_constants_and_strings_are_counted(rt: HostRuntime) -> Result<(), Fail> {
+    let table: [(&[u8], Option<usize>); 12] = [
+        (b"'a'", Some(1)),
+        (b"'ab'", Some(2)),
+        (b"'\"'", Some(1)),
+        (b"'\\377'", Some(1)),
+        (b"\"\"", Some(0)),
+        (b"\"\\x41\\101\\n\"", Some(3)),
+        (b"''", None),
+        (b"u8\"a\"", None),
+        (b"'\\400'", None),
+        (b"\"\\q\"", None),
+        (b"\"a\\\"", None),
+        (b"", None),
+    ];
+    for (text, count) in table {
+        assert_eq!(&rt; character_count(text), count, "in {text:?}");
     }
     Ok(())
 }
