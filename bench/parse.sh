@@ -1,7 +1,9 @@
 #!/bin/bash
-# Makes units of 10,000, 40,000 and 160,000 tokens (functions with loops, calls, sums and structs), runs the program of
-# syntax trees over each, which parses it and prints its tree, and prints the seconds and how many times as long each takes as
-# the one before. 4 times the tokens may take at most 5 times as long: else the status is 1. It is a benchmark and no test.
+# Makes units of some 10,000, 40,000 and 160,000 tokens (globals, prototypes, and functions with loops, calls of functions
+# before them, typedef names, enumeration constants, structs and switches), runs the program of syntax trees over each,
+# which parses it and prints its tree, and prints the seconds and how many times as long each takes as the one before. Each
+# printed text must have all tokens of its unit, and 4 times the tokens may take at most 5 times as long: else the status is
+# 1. It is a benchmark and no test.
 set -eu
 home=$(CDPATH= cd -- "$(dirname -- "$0")/.." && pwd -P)
 work=$(mktemp -d)
@@ -11,33 +13,51 @@ folder=$home/crates/ct_trees
 program=$folder/out/ct_trees
 . "$home/bench/fastest.sh"
 
-# A unit of so many functions, each of 98 tokens.
+# What stands at the head of a unit: 32 tokens.
+head='typedef unsigned int level_t;
+enum mode { mode_off, mode_low, mode_high };
+struct lamp { level_t level; enum mode mode; struct lamp *next; };'
+head_tokens=32
+part_tokens=147
+
+# A unit of so many functions, each with its globals and its prototype: 147 tokens for each.
 unit() {
-    printf '== %s functions\nshow text\n' "$1"
+    printf '== %s functions\nshow text\n%s\n' "$1" "$head"
     awk -v n="$1" 'BEGIN {
         for (i = 0; i < n; i++) {
-            printf "static int part_%d(const struct lamp *lamp, unsigned int count)\n{\n", i
-            print "    int sum = 0;"
-            print "    for (unsigned int at = 0; at < count; at++)\n    {"
-            print "        if (lamp[at].on && lamp->level >= 3)\n            sum += lamp[at].level * 2 + 1;"
-            print "        else\n            sum -= (int)(at - 1u);\n    }"
-            print "    while (sum > 100)\n        sum = sum / 2;"
-            print "    return sum ? sum : -1;\n}\n"
+            before = i ? i - 1 : 0
+            printf "static int limit_%d = %d;\n", i, i
+            printf "static const level_t steps_%d[4] = { 1, 2, 3, %d };\n", i, i
+            printf "int part_%d(struct lamp *lamp, level_t count);\n\n", i
+            printf "int part_%d(struct lamp *lamp, level_t count)\n{\n", i
+            printf "    int sum = limit_%d;\n", i
+            print "    for (level_t at = 0; at < count; at++)\n    {"
+            printf "        if (lamp->mode == mode_low && at < 4)\n            sum += (int)steps_%d[at] * 2;\n", i
+            printf "        else\n            sum -= part_%d(lamp->next, (level_t)1);\n    }\n", int(i / 2)
+            print "    switch (sum)\n    {\n    case 0:"
+            print "        return limit_0;\n    default:\n        break;\n    }"
+            printf "    while (sum > 100)\n        sum = sum / 2;\n"
+            printf "    return sum > limit_%d ? sum : -1;\n}\n\n", before
         }
     }'
 }
 
 status=0
 last=
-for functions in 102 408 1632; do
+for functions in 68 272 1088; do
     unit "$functions" >"$work/unit"
     seconds=$(fastest "$program" "$work/unit")
-    tokens=$((functions * 98))
+    tokens=$((head_tokens + functions * part_tokens))
+    printed=$(grep -v '^== ' "$work/printed" | wc -w)
+    if [ "$printed" -ne "$tokens" ]; then
+        echo "of $tokens tokens $printed were printed"
+        status=1
+    fi
     if [ -z "$last" ]; then
         echo "$tokens tokens: $seconds s"
     else
         awk -v t="$tokens" -v s="$seconds" -v l="$last" \
-            'BEGIN { printf "%d tokens: %s s, %.1f times the size before\n", t, s, s / l; exit s > 5 * l }' || status=1
+            'BEGIN { printf "%d tokens: %s s, %.1f times as long as the one before\n", t, s, s / l; exit s > 5 * l }' || status=1
     fi
     last=$seconds
 done

@@ -1,26 +1,29 @@
 -- What the functions' proofs use.
-use Rattle.std.proofs.Common.{◌≡◌, ◌-◌, true, false, if◌then◌else◌, List, [], ◌∷◌, ◌++◌, Some, None, reverse, length, slice_get, refl, sym, ap, ◌∙◌, ◌<◌, arith, length-append}
+use Rattle.std.proofs.Common.{◌≡◌, ◌-◌, Bool, true, false, if◌then◌else◌, List, [], ◌∷◌, ◌++◌, Some, None, unwrap_or, reverse, length, slice_get, refl, sym, ap, ◌∙◌, ◌<◌, arith, length-append}
 use Rattle.std.proofs.lemmas.Option.{none-some, slice_get-get_or}
 use Rattle.std.proofs.Math.Seq.{get_or-append_seam}
 use Rattle.std.proofs.lemmas.List.{reverse-append, reverse-reverse}
+use Rattle.std.specs.Str.{bytes_eq}
 use Rattle.ct_syntax.specs.Words.{Text}
-use Rattle.ct_open.specs.declared.entries.Entry.{Entry}
-use Rattle.ct_open.specs.declared.entries.Entry.TheVariants as e
+use Rattle.ct_names.specs.declared.entries.Entry.{Entry}
+use Rattle.ct_names.specs.declared.entries.Entry.TheVariants as e
 use Rattle.ct_open.specs.declared.frames.Frame.{Frame}
 use Rattle.ct_open.specs.Frames.{needs, stack_needs}
-use Rattle.ct_open.specs.Code.{scope_of, stack_of, frame_of, is_named, type_of}
+use Rattle.ct_names.specs.Names.{meaning}
+use Rattle.ct_open.specs.Code.{scope_of, stack_of, frame_of}
 
 pub reverse_last : {A : Type 0} (xs : List A) (x : A) → reverse (xs ++ x ∷ []) ≡ x ∷ reverse xs
 reverse_last xs x = reverse-append xs (x ∷ [])
 
--- The first entry of a name says whether it is a typedef name.
-pub scope_here : (x : Entry) (es : List Entry) (text : Text) → is_named text x ≡ true → scope_of (x ∷ es) text ≡ type_of (Some x)
-scope_here e.Scope es text h = absurd cc
-scope_here (e.Name name is_type) es text h = ap (λ z. if z then is_type else scope_of es text) h
-
-pub scope_past : (x : Entry) (es : List Entry) (text : Text) → is_named text x ≡ false → scope_of (x ∷ es) text ≡ scope_of es text
-scope_past e.Scope es text h = refl
-scope_past (e.Name name is_type) es text h = ap (λ z. if z then is_type else scope_of es text) h
+-- The latest entry of a name says whether it is a typedef name.
+pub scope_by_meaning : (es : List Entry) (text : Text) → unwrap_or (meaning es text) false ≡ scope_of es text
+scope_by_meaning [] text = refl
+scope_by_meaning (e.Scope ∷ es) text = scope_by_meaning es text
+scope_by_meaning (e.Name name is_type ∷ es) text = go (bytes_eq name text) (scope_by_meaning es text)
+  where
+    go : (here : Bool) → unwrap_or (meaning es text) false ≡ scope_of es text → unwrap_or (if here then Some is_type else meaning es text) false ≡ (if here then is_type else scope_of es text)
+    go true rest = refl
+    go false rest = rest
 
 same_inside : {A : Type 0} (x y : A) → Some x ≡ Some y → x ≡ y
 same_inside x y h = cc

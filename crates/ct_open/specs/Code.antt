@@ -44,9 +44,10 @@ use Rattle.ct_open.specs.declared.frames.AssertMode.{AssertMode}
 use Rattle.ct_open.specs.declared.frames.AssertMode.TheVariants as am
 use Rattle.ct_open.specs.declared.frames.StatementMode.{StatementMode}
 use Rattle.ct_open.specs.declared.frames.StatementMode.TheVariants as tm
-use Rattle.ct_open.specs.declared.entries.Entry.{Entry}
-use Rattle.ct_open.specs.declared.entries.Entry.TheVariants as e
+use Rattle.ct_names.specs.declared.entries.Entry.{Entry}
+use Rattle.ct_names.specs.declared.entries.Entry.TheVariants as e
 use Rattle.ct_open.specs.declared.state.Open.{Open}
+pub use Rattle.ct_names.specs.Names.{outside}
 
 abbrev pub PartStack : Type 0
 PartStack = m.Stack Part
@@ -60,12 +61,6 @@ abbrev pub scope_of : List Entry → Scope
 scope_of [] = no_names
 scope_of (e.Scope ∷ es) = scope_of es
 scope_of (e.Name name is_type ∷ es) = with_name (scope_of es) name is_type
-
--- the names outside the innermost scope that is open
-abbrev pub outside : List Entry → List Entry
-outside [] = []
-outside (e.Scope ∷ es) = es
-outside (e.Name name is_type ∷ es) = outside es
 
 -- ---- productions that are open
 
@@ -186,7 +181,7 @@ stack_of os (x ∷ xs) = frame_of os x ∷ stack_of (behind os x) xs
 -- ---- what the code holds
 
 abbrev pub entries : Open → List Entry
-entries x = reverse x.names.items
+entries x = x.names
 
 abbrev pub frames : Open → List Frame
 frames x = reverse x.frames.items
@@ -276,16 +271,6 @@ mode_of (mode.Statement x) = statement_mode x
 abbrev pub Stepped : Open → Option Mode → PartStep → Type 0
 Stepped x None r = r ≡ None
 Stepped x (Some next) r = r ≡ Some (scope x, stack x, mode_of next)
-
--- ---- a name among those that are declared
-
-abbrev pub is_named : Text → Entry → Bool
-is_named text e.Scope = false
-is_named text (e.Name name is_type) = bytes_eq name text
-
-abbrev pub type_of : Option Entry → Bool
-type_of (Some (e.Name name is_type)) = is_type
-type_of _ = false
 
 -- whether the end of its last part ends a statement, an `else` behind it too
 abbrev pub is_passed : StatementFrame → Bool

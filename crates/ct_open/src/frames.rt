@@ -4,7 +4,7 @@
 ghost use Rattle.std.specs.Prelude.{◌≡◌, List};
 ghost use Rattle.ct_open.specs.Code.{frame_of, operand_frame, value_frame, clause_frame};
 ghost use Rattle.ct_open.specs.Frames.{needs, holds};
-ghost use Rattle.ct_open.specs.declared.entries.Entry.{Entry};
+ghost use Rattle.ct_names.specs.declared.entries.Entry.{Entry};
 
 use ct_base::{Bytes, Items, Span};
 use ct_build::infix_level;

@@ -1,14 +1,12 @@
 //! What the grammar reads of a token, and the productions that are open between two tokens.
 #![tactic(auto)]
 
-mod entries;
 mod frames;
 mod state;
 #[cfg(test)]
 mod tests;
 mod words;
 
-pub use entries::Entry;
 pub use frames::{
     Aim, AssertMode, BodyFrame, ClauseFrame, DeclaratorFrame, DeclaratorMode, Frame, InitMode,
     ListFrame, Mode, OperandFrame, Purpose, SpecsFrame, SpecsMode, StatementFrame, StatementMode,

@@ -2,22 +2,22 @@
 
 ghost use Rattle.std.specs.Prelude.{◌≡◌, [], ◌∷◌, OnOk, MatchOption};
 ghost use Rattle.ct_open.specs.Code.{entries, frames, scope, stack, outside};
-ghost use Rattle.ct_open.specs.declared.entries.Entry.TheVariants.{Scope as scope_entry, Name as name_entry};
+ghost use Rattle.ct_names.specs.declared.entries.Entry.TheVariants.{Scope as scope_entry, Name as name_entry};
 ghost use Rattle.ct_open.specs.Frames.{stack_needs};
 ghost use Rattle.ct_parts.specs.Parts.{declare_all as spec_all};
 ghost use Rattle.ct_parts.specs.Views.{names_of};
 
-use crate::entries::Entry;
 use crate::frames::{Frame, frame_needs};
 use ct_base::{Bytes, Mem};
+use ct_names::Names;
 use ct_parts::Declared;
 use std::alloc::Global;
 
-/// The productions that are open, the innermost last, and the names that are declared, the latest last.
+/// The productions that are open, the innermost last, and the names that are declared.
 #[derive(Drop)]
 pub struct Open {
     frames: Vec<Frame>,
-    names: Vec<Entry>,
+    names: Names,
 }
 
 impl Open {
@@ -28,7 +28,7 @@ impl Open {
     {
         Open {
             frames: Vec::new(alloc),
-            names: Vec::new(alloc),
+            names: Names::new(alloc),
         }
     }
 
@@ -52,36 +52,27 @@ impl Open {
     }
 
     /// Opens a scope.
-    #[tactic(auto, using(crate::proofs::Rules::reverse_last))]
     pub fn enter(&mut self) -> Mem<()>
         ensures names { OnOk result (entries self.new ≡ scope_entry ∷ entries self.old) }
         ensures frames { frames self.new ≡ frames self.old }
     {
-        self.names.push(Entry::Scope)?;
-        Ok(())
+        self.names.enter()
     }
 
     /// Leaves the innermost scope.
-    #[tactic(auto, using(crate::proofs::Rules::reverse_last))]
     pub fn leave(&mut self)
         ensures names { entries self.new ≡ outside (entries self.old) }
         ensures frames { frames self.new ≡ frames self.old }
     {
-        while let Some(entry) = self.names.pop() {
-            if matches!(entry, Entry::Scope) {
-                return;
-            }
-        }
+        self.names.leave();
     }
 
     /// Declares a name.
-    #[tactic(auto, using(crate::proofs::Rules::reverse_last))]
     pub fn declare(&mut self, name: Bytes, is_type: bool) -> Mem<()>
         ensures names { OnOk result (entries self.new ≡ name_entry name is_type ∷ entries self.old) }
         ensures frames { frames self.new ≡ frames self.old }
     {
-        self.names.push(Entry::Name(name, is_type))?;
-        Ok(())
+        self.names.declare(name, is_type)
     }
 
     /// Declares names in their order.
@@ -98,18 +89,11 @@ impl Open {
     }
 
     /// Whether a name is a typedef name: the entry that was declared last says so.
-    #[tactic(auto, using(crate::proofs::Rules::reverse_last, crate::proofs::Rules::scope_here, crate::proofs::Rules::scope_past))]
+    #[tactic(auto, using(crate::proofs::Rules::scope_by_meaning))]
     pub fn is_type(&self, name: &[u8]) -> bool
         ensures { result ≡ scope self.now name.now }
     {
-        let mut rest = self.names.as_slice();
-        while let Some((entry, before)) = rest.split_last() {
-            if entry.is_named(name) {
-                return entry.is_type();
-            }
-            rest = before;
-        }
-        false
+        self.names.meaning(name).unwrap_or(false)
     }
 
     /// The level that the part of the innermost production is at least of.

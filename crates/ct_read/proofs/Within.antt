@@ -7,7 +7,7 @@ use Rattle.ct_parts.specs.Parts.{Part, parts_built}
 use Rattle.ct_open.specs.Frames as m
 use Rattle.ct_open.specs.Steps as s
 use Rattle.ct_open.specs.Code.{PartStack, PartStep, scope_of, outside, behind, frame_of, stack_of}
-use Rattle.ct_open.specs.declared.entries.Entry.{Entry}
+use Rattle.ct_names.specs.declared.entries.Entry.{Entry}
 use Rattle.ct_open.specs.declared.frames.Frame.{Frame}
 use Rattle.ct_open.specs.declared.frames.Frame.TheVariants as f
 use Rattle.ct_open.specs.declared.frames.OperandFrame.TheVariants as o

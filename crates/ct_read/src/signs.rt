@@ -3,7 +3,7 @@
 ghost use Rattle.std.specs.Prelude.{◌≡◌, false, List, MatchOption};
 ghost use Rattle.ct_open.specs.Code.{frame_of};
 ghost use Rattle.ct_open.specs.Terminals.{word_of};
-ghost use Rattle.ct_open.specs.declared.entries.Entry.{Entry};
+ghost use Rattle.ct_names.specs.declared.entries.Entry.{Entry};
 ghost use Rattle.ct_open.specs.declared.frames.Frame.TheVariants.{Operand as operand};
 ghost use Rattle.ct_open.specs.declared.frames.OperandFrame.TheVariants.{Sizeof as sizeof};
 ghost use Rattle.ct_read.specs.Signs as spec;

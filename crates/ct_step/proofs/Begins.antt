@@ -11,7 +11,7 @@ use Rattle.ct_parts.specs.Parts.{Part, parts_built}
 use Rattle.ct_open.specs.Code.{PartStack, PartStep, scope_of, stack_of, outside}
 use Rattle.ct_open.specs.Frames.{InElse, InBraces, InPlace, InItem, DeclSpecs, ToTest, ToAssert, Opening, Pointed, Want}
 use Rattle.ct_open.specs.Steps as m
-use Rattle.ct_open.specs.declared.entries.Entry.{Entry}
+use Rattle.ct_names.specs.declared.entries.Entry.{Entry}
 use Rattle.ct_open.specs.declared.frames.BodyFrame.{BodyFrame}
 use Rattle.ct_open.specs.declared.frames.BodyFrame.TheVariants.{Switch}
 use Rattle.ct_open.specs.declared.frames.Frame.{Frame}

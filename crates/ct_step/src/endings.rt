@@ -5,7 +5,7 @@ ghost use Rattle.ct_open.specs.Code.{Stepped, PartStack, stack, scope, frames, u
 ghost use Rattle.ct_open.specs.Frames.{DeclSpecs, InElse, InReturn};
 ghost use Rattle.ct_open.specs.Steps as m;
 ghost use Rattle.ct_open.specs.Terminals.{word_of};
-ghost use Rattle.ct_open.specs.declared.entries.Entry.{Entry};
+ghost use Rattle.ct_names.specs.declared.entries.Entry.{Entry};
 ghost use Rattle.ct_open.specs.declared.frames.Frame.TheVariants.{Body as body_frame, Statement as statement_frame};
 ghost use Rattle.ct_parts.specs.Parts.{parts_built};
 ghost use Rattle.ct_parts.specs.Views.{expr_of, branches_part, statement_part};

@@ -5,7 +5,7 @@ ghost use Rattle.ct_open.specs.Code.{Stepped, stack, scope, under, aim_of, frame
 ghost use Rattle.ct_open.specs.Frames.{InFunction, InRun, InUnit, DeclSpecs};
 ghost use Rattle.ct_open.specs.Steps as m;
 ghost use Rattle.ct_open.specs.Terminals.{word_of};
-ghost use Rattle.ct_open.specs.declared.entries.Entry.{Entry};
+ghost use Rattle.ct_names.specs.declared.entries.Entry.{Entry};
 ghost use Rattle.ct_open.specs.declared.frames.BodyFrame.TheVariants.{Switch as switch};
 ghost use Rattle.ct_open.specs.declared.frames.Frame.TheVariants.{Body as body_frame, Clause as clause_frame};
 ghost use Rattle.ct_parts.specs.Parts.{parts_built};

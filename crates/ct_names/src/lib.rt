@@ -1,0 +1,10 @@
+//! The names in scope, with what each of them means (C11 6.2.1).
+#![tactic(auto)]
+
+mod entries;
+mod names;
+#[cfg(test)]
+mod tests;
+
+pub use entries::Entry;
+pub use names::Names;
