@@ -2,6 +2,7 @@
 #![tactic(auto)]
 
 mod answers;
+mod bytes;
 mod digits;
 mod faults;
 mod lexical;
@@ -9,15 +10,14 @@ mod limits;
 mod memory;
 mod operators;
 mod refusals;
-#[cfg(test)]
-mod tests;
 mod texts;
 
 pub use answers::Status;
+pub use bytes::{first_of, has_pair, is_digit, is_letter, is_name_byte, is_nondigit};
 pub use digits::decimal;
 pub use faults::FaultKind;
 pub use lexical::{Span, Token, TokenKind};
-pub use limits::LimitKind;
+pub use limits::{LimitKind, MEBIBYTE, MOST_STEPS};
 pub use memory::{Fail, Mem, Out, OutOfMemory};
 pub use operators::{BinaryOp, UnaryOp};
 pub use refusals::Refusal;

@@ -1,5 +1,11 @@
 //! The limits of a project.
 
+/// 1 MiB: the most bytes of a file, of an object and of a type.
+pub const MEBIBYTE: u32 = 1_048_576;
+
+/// The most steps of a test.
+pub const MOST_STEPS: u64 = 10_000_000;
+
 /// A quantity with a limit. A quantity equal to its limit is allowed.
 #[derive(Clone, Copy, Debug, PartialEq, Eq)]
 pub enum LimitKind {
