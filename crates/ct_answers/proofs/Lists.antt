@@ -4,10 +4,10 @@ use Rattle.std.proofs.Common.{ℕ, suc, zero, ◌+◌, ◌-◌, ◌*◌, ◌<◌
 use Rattle.std.specs.Prelude.{map}
 use Rattle.std.proofs.lemmas.Bool.{cases_lt}
 use Rattle.ct_base.specs.declared.lexical.Token.{Token}
-use Rattle.ct_replace.specs.declared.definition.Macro.{Macro}
-use Rattle.ct_replace.specs.declared.marked.Marked.{Marked}
-use Rattle.ct_replace.specs.declared.call.Call.{Call}
-use Rattle.ct_replace.specs.Substitution.{IsPut}
+use Rattle.ct_macro_call.specs.declared.definition.Macro.{Macro}
+use Rattle.ct_macro_call.specs.declared.marked.Marked.{Marked}
+use Rattle.ct_macro_call.specs.declared.call.Call.{Call}
+use Rattle.ct_macro_call.specs.Substitution.{IsPut}
 use Rattle.ct_macro.specs.declared.faults.MacroFault.{MacroFault}
 use Rattle.ct_macro.specs.declared.faults.MacroKind.TheVariants.{BadPaste, TooLong}
 use Rattle.ct_macro.specs.Expansion.{Reading, kept, refused, replaced, Reads, Outcome, done, stopped, fault_at, led_by, Expands, nothing, keeps, refuses, replaces, ExpandsEach, none, each, ends, Continues, stops, unpasted, passes, again, unbroken, IsExpansion, IsRefusal}

@@ -2,14 +2,14 @@
 use Rattle.std.proofs.Common.{◌≡◌, ℕ, Bool, true, false, List, [], ◌∷◌, ◌++◌, refl, sym, ap, ◌∙◌, subst, ◌⊎◌, inl, inr, MatchBool}
 use Rattle.std.specs.Prelude.{map, filter}
 use Rattle.ct_base.specs.declared.lexical.TokenKind.{TokenKind}
-use Rattle.ct_replace.specs.declared.marked.Marked.{Marked}
-use Rattle.ct_replace.specs.declared.call.Operand.{Operand}
-use Rattle.ct_replace.specs.declared.call.Call.{Call}
-use Rattle.ct_replace.specs.Spelled.{IsOneToken, PastesTexts, Pastes, Joins, respaced}
-use Rattle.ct_replace.specs.Substitution.{Puts, IsPut, placed, dressed, has_bytes, tokens_at}
-use Rattle.ct_replace.proofs.Pasting.{OneTokenization, pasted_of, not_joined}
-use Rattle.ct_replace.proofs.Collecting.{nil_split}
-use Rattle.ct_replace.proofs.Substituting.{one_joint}
+use Rattle.ct_macro_call.specs.declared.marked.Marked.{Marked}
+use Rattle.ct_macro_call.specs.declared.call.Operand.{Operand}
+use Rattle.ct_macro_call.specs.declared.call.Call.{Call}
+use Rattle.ct_macro_call.specs.Spelled.{IsOneToken, PastesTexts, Pastes, Joins, respaced}
+use Rattle.ct_macro_call.specs.Substitution.{Puts, IsPut, placed, dressed, has_bytes, tokens_at}
+use Rattle.ct_macro_call.proofs.Pasting.{OneTokenization, pasted_of, not_joined}
+use Rattle.ct_macro_call.proofs.Collecting.{nil_split}
+use Rattle.ct_macro_call.proofs.Substituting.{one_joint}
 
 -- something passes, or nothing
 abbrev pub SomeOrNone : (A : Type 0) → (A → Type 0) → Type 0

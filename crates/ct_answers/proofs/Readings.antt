@@ -3,10 +3,10 @@ use Rattle.std.proofs.Common.{◌≡◌, ℕ, suc, zero, ◌<◌, Bool, true, fa
 use Rattle.std.specs.Prelude.{Option, Some, None}
 use Rattle.std.proofs.lemmas.List.{append-nil}
 use Rattle.std.proofs.lemmas.Bool.{cases_Bool, false≢true, eqb-true, eq-eqb, cases_lt}
-use Rattle.ct_replace.specs.declared.definition.Macro.{Macro}
-use Rattle.ct_replace.specs.declared.marked.Marked.{Marked}
-use Rattle.ct_replace.specs.Calls.{opens, closes, IsLevel, NoneAtLevel, closes_call, separates, MaySeparate, fewer, AreArguments, separators, arguments_for}
-use Rattle.ct_replace.proofs.Collecting.{none_more, nil_split}
+use Rattle.ct_macro_call.specs.declared.definition.Macro.{Macro}
+use Rattle.ct_macro_call.specs.declared.marked.Marked.{Marked}
+use Rattle.ct_macro_call.specs.Calls.{opens, closes, IsLevel, NoneAtLevel, closes_call, separates, MaySeparate, fewer, AreArguments, separators, arguments_for}
+use Rattle.ct_macro_call.proofs.Collecting.{none_more, nil_split}
 use Rattle.ct_macro.specs.declared.faults.MacroKind.TheVariants.{OpenCall}
 use Rattle.ct_macro.specs.Expansion.{Use, stays, object, opened, use_of, Reading, kept, refused, reading_of_object, reading_of_call, ReadsUse, Reads}
 

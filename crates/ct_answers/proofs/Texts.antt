@@ -12,7 +12,7 @@ use Rattle.ct_token.specs.Lexing.{begins_comment, ends_line, Piece, Blank, Block
 use Rattle.ct_token.proofs.Comments.{closing_behind, closed_at, not_closed}
 use Rattle.ct_token.proofs.Telling.{starts}
 use Rattle.ct_token.proofs.Unique.{IsEnd, same_tokens, open_or_closed}
-use Rattle.ct_replace.specs.Spelled.{IsOneToken}
+use Rattle.ct_macro_call.specs.Spelled.{IsOneToken}
 use Rattle.ct_answers.proofs.Decided.{same_decided}
 use Rattle.ct_answers.proofs.Longest.{longest_token}
 use Rattle.ct_answers.proofs.Puts.{SomeOrNone, EachIsOne}

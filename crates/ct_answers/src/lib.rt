@@ -4,7 +4,7 @@
 
 ghost use Rattle.std.specs.Prelude.{ℕ, List, ◌⊎◌};
 ghost use Rattle.ct_base.specs.declared.lexical.Token.{Token};
-ghost use Rattle.ct_replace.specs.declared.definition.Macro.{Macro};
+ghost use Rattle.ct_macro_call.specs.declared.definition.Macro.{Macro};
 ghost use Rattle.ct_macro.specs.declared.faults.MacroFault.{MacroFault};
 ghost use Rattle.ct_token.specs.Lexing.{IsTokenization, LeavesOpen};
 ghost use Rattle.ct_macro.specs.Expansion.{IsExpansion, IsRefusal};

@@ -6,10 +6,10 @@ use Rattle.std.specs.Str.{bytes_eq}
 use Rattle.ct_base.specs.declared.lexical.Token.{Token}
 use Rattle.ct_base.specs.declared.lexical.TokenKind.{TokenKind}
 use Rattle.ct_base.specs.declared.lexical.TokenKind.TheVariants.{Name, Number, Text, Other}
-use Rattle.ct_replace.specs.declared.definition.Macro.{Macro}
+use Rattle.ct_macro_call.specs.declared.definition.Macro.{Macro}
 use Rattle.ct_directive.specs.declared.definitions.Parameters.{Parameters}
 use Rattle.ct_directive.specs.declared.forms.Header.{Header}
-use Rattle.ct_replace.specs.Definition.{macro_named}
+use Rattle.ct_macro_call.specs.Definition.{macro_named}
 
 abbrev pub is_name_kind : TokenKind → Bool
 is_name_kind Name = true

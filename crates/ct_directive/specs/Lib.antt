@@ -2,3 +2,4 @@ pub mod Lines
 pub mod Forms
 pub mod Headers
 pub mod Search
+pub mod Groups

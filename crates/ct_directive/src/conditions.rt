@@ -6,7 +6,7 @@ ghost use Rattle.ct_directive.specs.Forms as spec;
 use crate::forms::{is, is_name};
 use ct_base::{Bytes, Items, Mem, Token, TokenKind};
 use ct_macro::Macros;
-use ct_replace::copy_token;
+use ct_macro_call::copy_token;
 use std::alloc::Global;
 
 /// Whether a name is defined; `__LINE__` always is.

@@ -5,7 +5,7 @@ ghost use Rattle.std.specs.Option.{option_copied};
 ghost use Rattle.ct_directive.specs.Forms as spec;
 
 use ct_base::{Bytes, Items, Mem, Token, TokenKind};
-use ct_replace::copy_token;
+use ct_macro_call::copy_token;
 use std::alloc::Global;
 
 /// A header name, and whether it stands in quotes (C11 6.10.2).

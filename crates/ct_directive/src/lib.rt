@@ -9,6 +9,7 @@ mod forms;
 mod headers;
 mod heads;
 mod lines;
+mod outlines;
 mod search;
 
 pub use conditions::{has_operator, is_defined, without_defined};
@@ -17,4 +18,5 @@ pub use faults::{PreFault, PreKind};
 pub use forms::{Header, first_other, header_in, is, one_name, quoted_header, undefined_name};
 pub use heads::{Head, Heads};
 pub use lines::{directive_in, lines_of, words_of};
+pub use outlines::{each_outline, one_outline};
 pub use search::{Search, Target};

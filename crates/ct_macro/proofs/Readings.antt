@@ -2,15 +2,15 @@
 use Rattle.std.proofs.Common.{◌≡◌, ℕ, Bool, true, false, List, [], ◌∷◌, ◌++◌, length, refl, sym, ap, ◌∙◌, subst, inl, inr}
 use Rattle.std.specs.Prelude.{Option, Some, None, MatchOption, if◌then◌else◌}
 use Rattle.ct_macro.specs.declared.faults.MacroKind.TheVariants.{Arguments, OpenCall}
-use Rattle.ct_replace.specs.declared.definition.Macro.{Macro}
-use Rattle.ct_replace.specs.declared.marked.Marked.{Marked}
-use Rattle.ct_replace.specs.declared.call.Call.{Call}
+use Rattle.ct_macro_call.specs.declared.definition.Macro.{Macro}
+use Rattle.ct_macro_call.specs.declared.marked.Marked.{Marked}
+use Rattle.ct_macro_call.specs.declared.call.Call.{Call}
 use Rattle.ct_macro.specs.declared.reading.Step.{Step}
 use Rattle.ct_macro.specs.declared.reading.Step.TheVariants as step
-use Rattle.ct_replace.specs.Calls.{IsCall, IsOpenCall, AreArguments, separators, arguments_for}
-use Rattle.ct_replace.specs.Sets.{common}
-use Rattle.ct_replace.specs.Substitution.{call_of, full_arguments}
-use Rattle.ct_replace.specs.Words.{is_open}
+use Rattle.ct_macro_call.specs.Calls.{IsCall, IsOpenCall, AreArguments, separators, arguments_for}
+use Rattle.ct_macro_call.specs.Sets.{common}
+use Rattle.ct_macro_call.specs.Substitution.{call_of, full_arguments}
+use Rattle.ct_macro_call.specs.Words.{is_open}
 use Rattle.ct_macro.specs.Expansion.{Use, stays, opened, use_of_macro, Reading, kept, refused, replaced, reading_of_object, reading_of_call, ReadsUse}
 use Rattle.ct_macro.specs.Machine.{StepGives}
 

@@ -8,14 +8,14 @@ use Rattle.ct_base.specs.declared.memory.Fail.TheVariants.{Fault, OutOfMemory}
 use Rattle.ct_macro.specs.declared.faults.MacroFault.{MacroFault}
 use Rattle.ct_macro.specs.declared.faults.MacroKind.{MacroKind}
 use Rattle.ct_macro.specs.declared.faults.MacroKind.TheVariants.{BadPaste, TooLong}
-use Rattle.ct_replace.specs.declared.definition.Macro.{Macro}
-use Rattle.ct_replace.specs.declared.marked.Marked.{Marked}
-use Rattle.ct_replace.specs.declared.call.Call.{Call}
+use Rattle.ct_macro_call.specs.declared.definition.Macro.{Macro}
+use Rattle.ct_macro_call.specs.declared.marked.Marked.{Marked}
+use Rattle.ct_macro_call.specs.declared.call.Call.{Call}
 use Rattle.ct_macro.specs.declared.reading.Step.{Step}
 use Rattle.ct_macro.specs.declared.reading.Step.TheVariants as step
 use Rattle.ct_macro.specs.declared.expander.Frame.{Frame}
 use Rattle.ct_macro.specs.declared.expander.Expander.{Expander}
-use Rattle.ct_replace.specs.Substitution.{IsPut}
+use Rattle.ct_macro_call.specs.Substitution.{IsPut}
 use Rattle.ct_macro.specs.Expansion.{Reading, kept, refused, replaced, Outcome, done, stopped, fault_at, led_by, Reads, Expands, nothing, keeps, refuses, replaces, ExpandsEach, none, each, ends, Continues, stops, unpasted, passes, again}
 use Rattle.ct_macro.specs.Machine.{StepGives, led_all, Finishes, ResumesOne, Resumes, GoesOn, Comes}
 

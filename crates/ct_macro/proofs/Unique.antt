@@ -5,11 +5,11 @@ use Rattle.std.proofs.lemmas.Bool.{false≢true}
 use Rattle.ct_macro.specs.declared.faults.MacroFault.{MacroFault}
 use Rattle.ct_macro.specs.declared.faults.MacroKind.{MacroKind}
 use Rattle.ct_macro.specs.declared.faults.MacroKind.TheVariants.{BadPaste, TooLong}
-use Rattle.ct_replace.specs.declared.definition.Macro.{Macro}
-use Rattle.ct_replace.specs.declared.marked.Marked.{Marked}
-use Rattle.ct_replace.specs.declared.call.Call.{Call}
-use Rattle.ct_replace.specs.Calls.{IsCall, AreArguments, closes_call, separates, NoneAtLevel, IsLevel, fewer, arguments_for}
-use Rattle.ct_replace.specs.Substitution.{IsPut}
+use Rattle.ct_macro_call.specs.declared.definition.Macro.{Macro}
+use Rattle.ct_macro_call.specs.declared.marked.Marked.{Marked}
+use Rattle.ct_macro_call.specs.declared.call.Call.{Call}
+use Rattle.ct_macro_call.specs.Calls.{IsCall, AreArguments, closes_call, separates, NoneAtLevel, IsLevel, fewer, arguments_for}
+use Rattle.ct_macro_call.specs.Substitution.{IsPut}
 use Rattle.ct_macro.specs.Expansion.{Use, stays, object, opened, use_of, Reading, kept, refused, replaced, reading_of_call, ReadsCall, ReadsUse, Reads, Outcome, done, stopped, fault_at, led_by, Expands, nothing, keeps, refuses, replaces, ExpandsEach, none, each, ends, Continues, stops, unpasted, passes, again}
 
 -- a call puts one list at most

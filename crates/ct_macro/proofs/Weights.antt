@@ -1,13 +1,13 @@
 -- An expansion ends: what is still to be read grows lighter with each step.
 use Rattle.std.proofs.Common.{◌≡◌, ℕ, ◌+◌, ◌≤◌, Bool, true, false, List, [], ◌∷◌, ◌++◌, length, refl, ap, ◌∙◌, subst, arith, inl, inr, length-append}
 use Rattle.std.specs.Prelude.{Option, Some, None, nat_eq, if◌then◌else◌}
-use Rattle.ct_replace.specs.declared.definition.Macro.{Macro}
-use Rattle.ct_replace.specs.declared.marked.Marked.{Marked}
-use Rattle.ct_replace.specs.declared.call.Call.{Call}
-use Rattle.ct_replace.specs.Words.{is_open}
-use Rattle.ct_replace.specs.Calls.{AreArguments, fewer, separators, is_no_argument, fixed_arguments, variadic_arguments, arguments_for}
-use Rattle.ct_replace.specs.Sets.{is_in}
-use Rattle.ct_replace.specs.Substitution.{selected, full_arguments, names_in, operands_of, is_full}
+use Rattle.ct_macro_call.specs.declared.definition.Macro.{Macro}
+use Rattle.ct_macro_call.specs.declared.marked.Marked.{Marked}
+use Rattle.ct_macro_call.specs.declared.call.Call.{Call}
+use Rattle.ct_macro_call.specs.Words.{is_open}
+use Rattle.ct_macro_call.specs.Calls.{AreArguments, fewer, separators, is_no_argument, fixed_arguments, variadic_arguments, arguments_for}
+use Rattle.ct_macro_call.specs.Sets.{is_in}
+use Rattle.ct_macro_call.specs.Substitution.{selected, full_arguments, names_in, operands_of, is_full}
 use Rattle.ct_macro.specs.Expansion.{Use, stays, object, opened, use_of, use_of_found, use_of_macro, use_of_function, macro_of, replaced, reading_of_call, ReadsUse, Reads}
 use Rattle.ct_macro.specs.Machine.{weight_each}
 

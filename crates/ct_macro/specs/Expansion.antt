@@ -6,17 +6,17 @@ use Rattle.std.specs.Fmt.{decimal}
 use Rattle.ct_base.specs.declared.lexical.Token.{Token}
 use Rattle.ct_base.specs.declared.lexical.TokenKind.{TokenKind}
 use Rattle.ct_base.specs.declared.lexical.TokenKind.TheVariants.{Number, Line}
-use Rattle.ct_replace.specs.declared.definition.Macro.{Macro}
+use Rattle.ct_macro_call.specs.declared.definition.Macro.{Macro}
 use Rattle.ct_macro.specs.declared.faults.MacroFault.{MacroFault}
 use Rattle.ct_macro.specs.declared.faults.MacroKind.{MacroKind}
 use Rattle.ct_macro.specs.declared.faults.MacroKind.TheVariants.{Arguments, OpenCall, BadPaste, TooLong}
-use Rattle.ct_replace.specs.declared.marked.Marked.{Marked}
-use Rattle.ct_replace.specs.Words.{is_open, line_name}
-use Rattle.ct_replace.specs.Definition.{is_named}
-use Rattle.ct_replace.specs.Calls.{IsCall, IsOpenCall, AreArguments, separators, arguments_for}
-use Rattle.ct_replace.specs.Sets.{is_in, common}
-use Rattle.ct_replace.specs.declared.call.Call.{Call}
-use Rattle.ct_replace.specs.Substitution.{IsPut, call_of, full_arguments}
+use Rattle.ct_macro_call.specs.declared.marked.Marked.{Marked}
+use Rattle.ct_macro_call.specs.Words.{is_open, line_name}
+use Rattle.ct_macro_call.specs.Definition.{is_named}
+use Rattle.ct_macro_call.specs.Calls.{IsCall, IsOpenCall, AreArguments, separators, arguments_for}
+use Rattle.ct_macro_call.specs.Sets.{is_in, common}
+use Rattle.ct_macro_call.specs.declared.call.Call.{Call}
+use Rattle.ct_macro_call.specs.Substitution.{IsPut, call_of, full_arguments}
 
 -- ---- what is replaced
 

@@ -1,7 +1,7 @@
 -- How far an expansion has come, and what the rest of it gives. No public clause speaks of it.
 use Rattle.std.specs.Prelude.{◌≡◌, ℕ, ◌+◌, ◌-◌, ◌*◌, List, [], ◌∷◌, ◌++◌, length}
-use Rattle.ct_replace.specs.declared.definition.Macro.{Macro}
-use Rattle.ct_replace.specs.declared.marked.Marked.{Marked}
+use Rattle.ct_macro_call.specs.declared.definition.Macro.{Macro}
+use Rattle.ct_macro_call.specs.declared.marked.Marked.{Marked}
 use Rattle.ct_macro.specs.declared.reading.Step.{Step}
 use Rattle.ct_macro.specs.declared.reading.Step.TheVariants as step
 use Rattle.ct_macro.specs.declared.expander.Frame.{Frame}

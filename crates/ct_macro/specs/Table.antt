@@ -3,10 +3,10 @@ use Rattle.std.specs.Prelude.{◌≡◌, ℕ, ◌⊎◌, true, false, List, [], 
 use Rattle.std.specs.List.{list_any}
 use Rattle.std.specs.declared.vec.Vec.{Vec}
 use Rattle.std.specs.declared.alloc.Global.{Global}
-use Rattle.ct_replace.specs.declared.definition.Macro.{Macro}
+use Rattle.ct_macro_call.specs.declared.definition.Macro.{Macro}
 use Rattle.ct_macro.specs.declared.faults.MacroFault.{MacroFault}
 use Rattle.ct_macro.specs.declared.faults.MacroKind.TheVariants.{BadDefinition, Redefined}
-use Rattle.ct_replace.specs.Definition.{is_malformed, is_named, IsRedefined}
+use Rattle.ct_macro_call.specs.Definition.{is_malformed, is_named, IsRedefined}
 
 -- each macro stands under its name, and no name twice
 abbrev pub IsTable : List (Vec ℕ Global × Macro) → Type 0

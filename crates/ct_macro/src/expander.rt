@@ -3,8 +3,8 @@
 ghost use Rattle.std.specs.Prelude.{◌≡◌, ◌∷◌, [], ◌+◌, ◌-◌, ◌*◌, ◌<◌, ◌≤◌, List, true, false, IfOk, OnOk};
 ghost use Rattle.ct_base.specs.Answers.{IfFault};
 ghost use Rattle.ct_base.specs.declared.memory.Fail.TheVariants.{Fault};
-ghost use Rattle.ct_replace.specs.declared.definition.Macro as declared_macro;
-ghost use Rattle.ct_replace.specs.declared.marked.Marked.{Marked};
+ghost use Rattle.ct_macro_call.specs.declared.definition.Macro as declared_macro;
+ghost use Rattle.ct_macro_call.specs.declared.marked.Marked.{Marked};
 ghost use Rattle.ct_macro.specs.declared.expander.Expander as declared_state;
 ghost use Rattle.ct_macro.specs.Expansion as spec;
 ghost use Rattle.ct_macro.specs.Machine.{Comes, GoesOn, weight, weight_frame, weight_frames};
@@ -13,7 +13,7 @@ use crate::faults::{MacroFault, MacroKind};
 use crate::reading::{Step, read_token};
 use crate::table::Macros;
 use ct_base::{Fail, Items, Mem, Out};
-use ct_replace::{Call, Marked, Source};
+use ct_macro_call::{Call, Marked, Source};
 use std::alloc::Global;
 use std::mem;
 

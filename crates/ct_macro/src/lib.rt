@@ -9,7 +9,7 @@ mod table;
 #[cfg(test)]
 mod tests;
 
-pub use ct_replace::Macro;
+pub use ct_macro_call::Macro;
 pub use expanding::{Expansion, expand, one_expansion};
 pub use faults::{MacroFault, MacroKind};
 pub use table::Macros;

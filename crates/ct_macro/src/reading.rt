@@ -1,15 +1,15 @@
 //! What becomes of a token before the tokens behind it.
 
 ghost use Rattle.std.specs.Prelude.{◌≡◌, ◌∷◌, List, ℕ, true, Some, IfOk, IsTrue, ◌↔◌, length};
-ghost use Rattle.ct_replace.specs.declared.marked.Marked.{Marked};
-ghost use Rattle.ct_replace.specs.Words.{is_open};
+ghost use Rattle.ct_macro_call.specs.declared.marked.Marked.{Marked};
+ghost use Rattle.ct_macro_call.specs.Words.{is_open};
 ghost use Rattle.ct_macro.specs.Expansion as spec;
 ghost use Rattle.ct_macro.specs.Machine.{StepGives};
 
 use crate::faults::MacroKind;
 use crate::table::Macros;
 use ct_base::{Bytes, Items, Mem, Token, TokenKind, decimal};
-use ct_replace::{
+use ct_macro_call::{
     Call, CallTokens, Macro, Marked, Source, arguments_for, is_line, is_open, read_call,
 };
 use std::alloc::Global;

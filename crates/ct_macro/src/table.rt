@@ -4,13 +4,13 @@ ghost use Rattle.std.specs.Prelude.{◌≡◌, false, Some, None, OnOk, OnErr, M
 ghost use Rattle.ct_base.specs.declared.memory.Fail.TheVariants.{Fault};
 ghost use Rattle.std.specs.Option.{option_copied};
 ghost use Rattle.ct_base.specs.Answers.{IfFault};
-ghost use Rattle.ct_replace.specs.Definition as spec;
+ghost use Rattle.ct_macro_call.specs.Definition as spec;
 ghost use Rattle.ct_macro.specs.Expansion.{placed_macro};
 ghost use Rattle.ct_macro.specs.Table.{Refuses};
 
 use crate::faults::{MacroFault, MacroKind};
 use ct_base::{Fail, Mem, Out};
-use ct_replace::Macro;
+use ct_macro_call::Macro;
 use indexmap::IndexMap;
 use std::alloc::Global;
 use std::marker::Model;
@@ -26,7 +26,7 @@ pub struct Macros {
 impl Model for Macros {
     ghost use Rattle.std.specs.Prelude.{List};
     ghost use Rattle.std.specs.HashMap.{values};
-    ghost use Rattle.ct_replace.specs.declared.definition.Macro.{Macro};
+    ghost use Rattle.ct_macro_call.specs.declared.definition.Macro.{Macro};
     ghost use Rattle.ct_macro.specs.Table.{IsTable};
 
     ghost Value = { List Macro };

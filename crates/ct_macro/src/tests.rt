@@ -5,7 +5,7 @@ use crate::faults::MacroKind::{Arguments, BadDefinition, BadPaste, OpenCall, Red
 use crate::faults::{MacroFault, MacroKind};
 use crate::table::Macros;
 use ct_base::{Bytes, Fail, Items, Token, TokenKind};
-use ct_replace::{Macro, copy_token};
+use ct_macro_call::{Macro, copy_token};
 use ct_token::tokens;
 use std::process::Abort;
 use std::test::Fail as TestFail;

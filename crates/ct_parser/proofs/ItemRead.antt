@@ -8,21 +8,21 @@ use Rattle.ct_syntax.specs.Grammar.{IsItem, IsUnit}
 use Rattle.ct_syntax.specs.Spelling.{spell_item, spell_unit}
 use Rattle.ct_syntax.specs.Units.{NoItem}
 use Rattle.ct_syntax.specs.Trees as t
-use Rattle.ct_parts.specs.Algebra.{items, Tree, trees_built}
-use Rattle.ct_parts.specs.Parts.{Part, part, parts_built}
-use Rattle.ct_open.specs.Frames.{InUnit, Mode, Begin, Stack, State}
-use Rattle.ct_open.specs.Steps.{step, then_run, run}
-use Rattle.ct_parser.specs.Reading.{unit_read, is_between, then_item, read_item}
-use Rattle.ct_parser.proofs.Basics.{R}
-use Rattle.ct_parser.proofs.CompleteStatements.{reads_item}
-use Rattle.ct_parser.proofs.SoundPlaces.{Goes}
-use Rattle.ct_parser.proofs.SoundStatements.{run_goes}
-use Rattle.ct_parser.proofs.Append.{item-append}
-use Rattle.ct_parser.proofs.Map.{map_stack, map_mode, map_step}
-use Rattle.ct_parser.proofs.MapStatements.{step_map}
+use Rattle.ct_grammar_machine.specs.Algebra.{items, Tree, trees_built}
+use Rattle.ct_parser_parts.specs.Parts.{Part, part, parts_built}
+use Rattle.ct_grammar_machine.specs.Frames.{InUnit, Mode, Begin, Stack, State}
+use Rattle.ct_grammar_machine.specs.Steps.{step, then_run, run}
+use Rattle.ct_grammar_machine.specs.Reading.{unit_read, is_between, then_item, read_item}
+use Rattle.ct_grammar_laws.proofs.Basics.{R}
+use Rattle.ct_grammar_laws.proofs.CompleteStatements.{reads_item}
+use Rattle.ct_grammar_laws.proofs.SoundPlaces.{Goes}
+use Rattle.ct_grammar_laws.proofs.SoundStatements.{run_goes}
+use Rattle.ct_grammar_laws.proofs.Append.{item-append}
+use Rattle.ct_grammar_laws.proofs.Map.{map_stack, map_mode, map_step}
+use Rattle.ct_grammar_laws.proofs.MapStatements.{step_map}
 use Rattle.ct_parser.proofs.PartsMap.{parts_hom}
 use Rattle.ct_parser.proofs.Tells.{unit_same}
-use Rattle.ct_parser.proofs.Units.{between, longer, items_of, no_item}
+use Rattle.ct_grammar_laws.proofs.Units.{between, longer, items_of, no_item}
 
 abbrev At : Type 0
 At = State Tree × List Word

@@ -13,11 +13,11 @@ use Rattle.ct_syntax.specs.Spelling.{spell_unit}
 use Rattle.ct_syntax.specs.Depths.{all_room, or_else, passed_item, passed_unit}
 use Rattle.ct_syntax.specs.Units.{Spells, IsShallow, NoItem, Unspelled}
 use Rattle.ct_syntax.specs.Trees as t
-use Rattle.ct_parts.specs.Algebra.{items}
-use Rattle.ct_parts.specs.Parts.{Part, kept}
-use Rattle.ct_parts.specs.Reach.{passed_by, depth_unit}
+use Rattle.ct_grammar_machine.specs.Algebra.{items}
+use Rattle.ct_parser_parts.specs.Parts.{Part, kept}
+use Rattle.ct_parser_parts.specs.Reach.{passed_by, depth_unit}
 use Rattle.ct_parser.specs.Parses.{Refused, Parsed, Reached, Progress, then_built, items_after, deep_here, deep_after}
-use Rattle.ct_parser.proofs.Leads.{unit_spelled, after_unit-last, IsUnit-last}
+use Rattle.ct_grammar_laws.proofs.Leads.{unit_spelled, after_unit-last, IsUnit-last}
 use Rattle.ct_parser.proofs.ReachTells.{tells_depth_unit}
 use Rattle.ct_parser.proofs.ItemRead.{ItemSeen, unit-append}
 use Rattle.ct_parser.proofs.OneUnit.{no_unit, one_place}

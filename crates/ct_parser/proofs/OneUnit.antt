@@ -6,13 +6,13 @@ use Rattle.ct_syntax.specs.Grammar.{IsItem, IsUnit}
 use Rattle.ct_syntax.specs.Spelling.{spell_item, spell_unit}
 use Rattle.ct_syntax.specs.Units.{NoItem}
 use Rattle.ct_syntax.specs.Trees as t
-use Rattle.ct_parts.specs.Algebra.{Tree}
-use Rattle.ct_open.specs.Frames.{InUnit, Begin, State}
-use Rattle.ct_parser.proofs.Basics.{R}
-use Rattle.ct_parser.proofs.CompleteStatements.{reads_item}
-use Rattle.ct_parser.proofs.Append.{item-append}
-use Rattle.ct_parser.proofs.Map.{map_step}
-use Rattle.ct_parser.proofs.Growing.{grow, grown}
+use Rattle.ct_grammar_machine.specs.Algebra.{Tree}
+use Rattle.ct_grammar_machine.specs.Frames.{InUnit, Begin, State}
+use Rattle.ct_grammar_laws.proofs.Basics.{R}
+use Rattle.ct_grammar_laws.proofs.CompleteStatements.{reads_item}
+use Rattle.ct_grammar_laws.proofs.Append.{item-append}
+use Rattle.ct_grammar_laws.proofs.Map.{map_step}
+use Rattle.ct_grammar_laws.proofs.Growing.{grow, grown}
 use Rattle.ct_parser.proofs.ItemRead.{item_some}
 
 abbrev first_item : Option (State Tree) → Option t.Item

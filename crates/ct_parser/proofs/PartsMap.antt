@@ -8,17 +8,17 @@ use Rattle.ct_syntax.specs.Words.{Text}
 use Rattle.ct_syntax.specs.Scopes.{Scope, with_name, with_maybe, name_of, is_typedef, is_plain, own_parameters, after_specs, after_members, after_enumerators, after_declarator, after_parameters}
 use Rattle.ct_syntax.specs.TypeWords.{words_of, whole_types}
 use Rattle.ct_syntax.specs.Grammar.{has_parameters, is_only_void}
-use Rattle.ct_parts.specs.Reach.{Depth, flat, both, is_within, passed_by, nested, in_expression, in_declarator, in_statement, depth, depths, depth_optional, depth_specs, depth_members, depth_enumerators, depth_declarators, depth_declarator, depth_parameters, depth_designator, depth_initialiser, depth_items, depth_start, depth_init_declarators, depth_declaration, depth_maybe, depth_for_start, depth_statement, depth_branches, depth_other, depth_body, depth_item, depth_unit}
+use Rattle.ct_parser_parts.specs.Reach.{Depth, flat, both, is_within, passed_by, nested, in_expression, in_declarator, in_statement, depth, depths, depth_optional, depth_specs, depth_members, depth_enumerators, depth_declarators, depth_declarator, depth_parameters, depth_designator, depth_initialiser, depth_items, depth_start, depth_init_declarators, depth_declaration, depth_maybe, depth_for_start, depth_statement, depth_branches, depth_other, depth_body, depth_item, depth_unit}
 use Rattle.ct_syntax.specs.Trees as t
-use Rattle.ct_parts.specs.Algebra.{Sort, expr, exprs, specs, members, enumerators, declarators, decl, parameters, init, inits, init_declarators, declaration, for_start, stmt, branches, body, items, Aimed, AtNext, AtMember, AtIndex, Tree, trees_built, designator_of, other_of, expressions_then, specs_then, members_then, enumerators_then, declarators_then, parameters_then, inits_then, branches_then, body_then}
-use Rattle.ct_parts.specs.Parts.{Names, declare_all, names_specs, names_members, names_enumerators, name_maybe, names_parameters, SpecInfo, Info, is_typedef_word, is_nameless, is_empty, is_one_void, info_of, depth_of, Built, kept, fit, part, one, over, option_pair, pair, built_of, aimed, make, with_whole, parts_built}
-use Rattle.ct_parser.proofs.TypeParts.{whole_then, words_then}
+use Rattle.ct_grammar_machine.specs.Algebra.{Sort, expr, exprs, specs, members, enumerators, declarators, decl, parameters, init, inits, init_declarators, declaration, for_start, stmt, branches, body, items, Aimed, AtNext, AtMember, AtIndex, Tree, trees_built, designator_of, other_of, expressions_then, specs_then, members_then, enumerators_then, declarators_then, parameters_then, inits_then, branches_then, body_then}
+use Rattle.ct_parser_parts.specs.Parts.{Names, declare_all, names_specs, names_members, names_enumerators, name_maybe, names_parameters, SpecInfo, Info, is_typedef_word, is_nameless, is_empty, is_one_void, info_of, depth_of, Built, kept, fit, part, one, over, option_pair, pair, built_of, aimed, make, with_whole, parts_built}
+use Rattle.ct_grammar_laws.proofs.TypeParts.{whole_then, words_then}
 use Rattle.ct_base.specs.declared.limits.LimitKind.{LimitKind}
 use Rattle.ct_syntax.specs.Depths.{all_room, or_else}
-use Rattle.ct_parts.specs.declared.reach.Nest.{Nest}
-use Rattle.ct_parts.specs.declared.reach.Nest.TheVariants.{Expression as OfExpression, Declarator as OfDeclarator, Statement as OfStatement}
+use Rattle.ct_parser_parts.specs.declared.reach.Nest.{Nest}
+use Rattle.ct_parser_parts.specs.declared.reach.Nest.TheVariants.{Expression as OfExpression, Declarator as OfDeclarator, Statement as OfStatement}
 use Rattle.ct_parser.proofs.ReachLaws.{both_flat, flat_both, both-assoc, passed-both, parts_pass}
-use Rattle.ct_parser.proofs.Map.{map_aimed, Hom}
+use Rattle.ct_grammar_laws.proofs.Map.{map_aimed, Hom}
 
 -- ---- depths
 

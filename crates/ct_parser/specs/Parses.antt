@@ -10,9 +10,9 @@ use Rattle.ct_syntax.specs.Spelling.{spell_unit}
 use Rattle.ct_syntax.specs.Depths.{all_room, passed_item}
 use Rattle.ct_syntax.specs.Units.{Spells, IsShallow, Unspelled, TooDeep}
 use Rattle.ct_syntax.specs.Trees as t
-use Rattle.ct_parts.specs.Algebra.{items}
-use Rattle.ct_parts.specs.Parts.{Part}
-use Rattle.ct_parts.specs.Reach.{passed_by}
+use Rattle.ct_grammar_machine.specs.Algebra.{items}
+use Rattle.ct_parser_parts.specs.Parts.{Part}
+use Rattle.ct_parser_parts.specs.Reach.{passed_by}
 
 -- No tree spells the tokens, and the first declaration that none spells begins with that token; or a tree spells
 -- them, and its first item that passes a limit of depth begins there.

@@ -6,9 +6,9 @@ use Rattle.ct_directive.specs.declared.faults.PreFault.{PreFault}
 use Rattle.ct_directive.specs.declared.faults.PreKind.TheVariants as pre
 use Rattle.ct_directive.specs.declared.forms.Header.{Header}
 use Rattle.ct_directive.specs.Lines.{directive_in}
-use Rattle.ct_groups.specs.Groups.{line_of, Group, IsGroup, ends, IsOutline, whole, breaks, unended}
-use Rattle.ct_groups.proofs.Shapes.{Shape, behind, goes, run}
-use Rattle.ct_groups.proofs.Broken.{breaks_run, unended_run}
+use Rattle.ct_directive.specs.Groups.{line_of, Group, IsGroup, ends, IsOutline, whole, breaks, unended}
+use Rattle.ct_directive.proofs.Shapes.{Shape, behind, goes, run}
+use Rattle.ct_directive.proofs.Broken.{breaks_run, unended_run}
 use Rattle.ct_preproc.specs.declared.state.State.{State}
 use Rattle.ct_preproc.specs.declared.state.Place.{Place}
 use Rattle.ct_preproc.specs.declared.state.Conditional.{Conditional}

@@ -4,7 +4,7 @@ use Rattle.std.specs.Prelude.{Result}
 use Rattle.ct_base.specs.declared.lexical.Token.{Token}
 use Rattle.ct_directive.specs.declared.faults.PreFault.{PreFault}
 use Rattle.ct_directive.specs.declared.forms.Header.{Header}
-use Rattle.ct_groups.specs.Groups.{Group, IsOutline}
+use Rattle.ct_directive.specs.Groups.{Group, IsOutline}
 use Rattle.ct_preproc.specs.declared.state.State.{State}
 use Rattle.ct_preproc.specs.declared.state.Place.{Place}
 use Rattle.ct_preproc.specs.Files.{ReadsLines, begins}

@@ -1,9 +1,9 @@
 -- A definition behind which a name stands once.
 use Rattle.std.proofs.Common.{◌≡◌, ℕ, Bool, true, false, not, cond, List, [], ◌∷◌, ◌++◌, refl, ap, subst, ◌∙◌, Option, Some, None, inl, inr}
 use Rattle.std.specs.Prelude.{MatchOption}
-use Rattle.ct_replace.specs.declared.definition.Macro.{Macro}
+use Rattle.ct_macro_call.specs.declared.definition.Macro.{Macro}
 use Rattle.ct_macro.specs.declared.faults.MacroFault.{MacroFault}
-use Rattle.ct_replace.specs.Definition.{Defines, SameDefinition, is_malformed, is_named, macro_named, without}
+use Rattle.ct_macro_call.specs.Definition.{Defines, SameDefinition, is_malformed, is_named, macro_named, without}
 use Rattle.ct_macro.specs.Table.{Refuses}
 
 gone_at : (name : List ℕ) (m : Macro) (rest : List Macro) (t : Bool) → is_named name m ≡ t → macro_named name rest ≡ None

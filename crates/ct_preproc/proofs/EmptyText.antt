@@ -2,8 +2,8 @@
 use Rattle.std.proofs.Common.{◌≡◌, ℕ, ◌+◌, ◌-◌, List, [], ◌++◌, refl, sym, ap, subst, ◌∙◌, arith, append-nil, map}
 use Rattle.std.specs.Prelude.{Result, Ok, Err}
 use Rattle.ct_base.specs.declared.lexical.Token.{Token}
-use Rattle.ct_replace.specs.declared.definition.Macro.{Macro}
-use Rattle.ct_replace.specs.declared.marked.Marked.{Marked}
+use Rattle.ct_macro_call.specs.declared.definition.Macro.{Macro}
+use Rattle.ct_macro_call.specs.declared.marked.Marked.{Marked}
 use Rattle.ct_macro.specs.declared.faults.MacroFault.{MacroFault}
 use Rattle.ct_macro.specs.Expansion.{Outcome, done, stopped, Expands as ExpandsMarked, nothing as no_tokens, IsExpansion, IsRefusal}
 use Rattle.ct_directive.specs.declared.faults.PreFault.{PreFault}

@@ -5,7 +5,7 @@ use Rattle.std.specs.Bool.{MatchBool}
 use Rattle.ct_base.specs.declared.lexical.Token.{Token}
 use Rattle.ct_directive.specs.declared.faults.PreFault.{PreFault}
 use Rattle.ct_directive.specs.declared.forms.Header.{Header}
-use Rattle.ct_groups.specs.Groups.{Line, TextLine, ControlLine, IfLine, ElifLine, ElseLine, EndifLine, line_of, Group, Text, Control, Section, Others, Elif, IsGroup, AreOthers, nothing as no_part, text as text_part, control as control_part, section as section_part, none as no_others, elif as elif_part, last as else_part}
+use Rattle.ct_directive.specs.Groups.{Line, TextLine, ControlLine, IfLine, ElifLine, ElseLine, EndifLine, line_of, Group, Text, Control, Section, Others, Elif, IsGroup, AreOthers, nothing as no_part, text as text_part, control as control_part, section as section_part, none as no_others, elif as elif_part, last as else_part}
 use Rattle.ct_preproc.specs.declared.state.State.{State}
 use Rattle.ct_preproc.specs.declared.state.Place.{Place}
 use Rattle.ct_preproc.specs.declared.state.Conditional.{Conditional}

@@ -6,7 +6,7 @@ use Rattle.ct_base.specs.declared.lexical.Token.{Token}
 use Rattle.ct_directive.specs.declared.faults.PreFault.{PreFault}
 use Rattle.ct_directive.specs.declared.faults.PreKind.TheVariants as pre
 use Rattle.ct_directive.specs.declared.forms.Header.{Header}
-use Rattle.ct_groups.specs.Groups.{TextLine, ControlLine, IfLine, ElifLine, ElseLine, EndifLine, Line, line_of}
+use Rattle.ct_directive.specs.Groups.{TextLine, ControlLine, IfLine, ElifLine, ElseLine, EndifLine, Line, line_of}
 use Rattle.ct_preproc.specs.declared.state.State.{State}
 use Rattle.ct_preproc.specs.declared.state.Place.{Place}
 use Rattle.ct_preproc.specs.declared.state.Conditional.{Conditional}

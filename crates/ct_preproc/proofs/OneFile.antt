@@ -6,7 +6,7 @@ use Rattle.std.specs.List.{list_any}
 use Rattle.std.specs.Str.{bytes_eq}
 use Rattle.ct_base.specs.declared.lexical.Token.{Token}
 use Rattle.ct_base.specs.declared.limits.LimitKind.TheVariants.{IncludeDepth}
-use Rattle.ct_replace.specs.declared.definition.Macro.{Macro}
+use Rattle.ct_macro_call.specs.declared.definition.Macro.{Macro}
 use Rattle.ct_outside.specs.Files.{Files}
 use Rattle.ct_settings.specs.declared.record.Define.{Define}
 use Rattle.ct_directive.specs.declared.faults.PreFault.{PreFault}
@@ -17,7 +17,7 @@ use Rattle.ct_directive.specs.declared.search.Target.{Target}
 use Rattle.ct_directive.specs.Forms.{first_other}
 use Rattle.ct_directive.specs.Headers.{BuiltIn}
 use Rattle.ct_directive.specs.Lines.{lines_of, words_of}
-use Rattle.ct_groups.specs.Groups.{Group, Nothing, Text, Control, Section, Others, NoOthers, Elif, Else}
+use Rattle.ct_directive.specs.Groups.{Group, Nothing, Text, Control, Section, Others, NoOthers, Elif, Else}
 use Rattle.ct_preproc.specs.declared.state.State.{State}
 use Rattle.ct_preproc.specs.declared.state.Place.{Place}
 use Rattle.ct_preproc.specs.declared.units.SourceUnit.{SourceUnit}

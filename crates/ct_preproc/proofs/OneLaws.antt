@@ -3,10 +3,10 @@ use Rattle.std.proofs.Common.{◌≡◌, ℕ, Bool, List, Option}
 use Rattle.std.specs.Prelude.{Result}
 use Rattle.ct_base.specs.declared.lexical.Token.{Token}
 use Rattle.ct_token.specs.Lexing.{IsTokenization, LeavesOpen}
-use Rattle.ct_replace.specs.declared.definition.Macro.{Macro}
+use Rattle.ct_macro_call.specs.declared.definition.Macro.{Macro}
 use Rattle.ct_macro.specs.declared.faults.MacroFault.{MacroFault}
 use Rattle.ct_macro.specs.Expansion.{IsExpansion, IsRefusal}
-use Rattle.ct_groups.specs.Groups.{Group, IsOutline}
+use Rattle.ct_directive.specs.Groups.{Group, IsOutline}
 use Rattle.ct_ppexpr.specs.declared.CondFault.{CondFault}
 use Rattle.ct_ppexpr.specs.Conditions.{HasValue}
 

@@ -2,8 +2,8 @@
 use Rattle.std.proofs.Common.{◌≡◌, ℕ, ◌+◌, ◌-◌, ◌⊎◌, inl, inr, Bool, List, [], ◌∷◌, ◌++◌, Option, Some, None, sym, ap, ◌∙◌}
 use Rattle.std.specs.Prelude.{Result, Ok, Err, MatchOption}
 use Rattle.ct_base.specs.declared.lexical.Token.{Token}
-use Rattle.ct_replace.specs.declared.definition.Macro.{Macro}
-use Rattle.ct_replace.specs.Definition.{is_malformed, macro_named, SameDefinition, Defines, IsRedefined}
+use Rattle.ct_macro_call.specs.declared.definition.Macro.{Macro}
+use Rattle.ct_macro_call.specs.Definition.{is_malformed, macro_named, SameDefinition, Defines, IsRedefined}
 use Rattle.ct_macro.specs.declared.faults.MacroFault.{MacroFault}
 use Rattle.ct_ppexpr.specs.declared.CondFault.{CondFault}
 use Rattle.ct_ppexpr.specs.Conditions.{HasValue}

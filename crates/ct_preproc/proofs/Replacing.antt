@@ -5,8 +5,8 @@ use Rattle.ct_base.specs.Answers.{OnAnswer}
 use Rattle.ct_base.specs.declared.lexical.Token.{Token}
 use Rattle.ct_base.specs.declared.memory.Fail.{Fail}
 use Rattle.ct_base.specs.declared.memory.Fail.TheVariants.{Fault, OutOfMemory}
-use Rattle.ct_replace.specs.declared.definition.Macro.{Macro}
-use Rattle.ct_replace.specs.Definition.{is_malformed, without}
+use Rattle.ct_macro_call.specs.declared.definition.Macro.{Macro}
+use Rattle.ct_macro_call.specs.Definition.{is_malformed, without}
 use Rattle.ct_directive.specs.declared.faults.PreFault.{PreFault}
 use Rattle.ct_directive.specs.declared.faults.PreKind.TheVariants as pre
 use Rattle.ct_preproc.specs.declared.state.Place.{Place}

@@ -8,8 +8,8 @@ use Rattle.ct_directive.specs.declared.faults.PreKind.TheVariants as pre
 use Rattle.ct_directive.specs.declared.forms.Header.{Header}
 use Rattle.ct_directive.specs.Forms.{is}
 use Rattle.ct_directive.specs.Lines.{directive_in}
-use Rattle.ct_groups.specs.Groups.{Line, ControlLine, IfLine, ElifLine, ElseLine, EndifLine, opens_group, directive_line, line_by, line_of}
-use Rattle.ct_groups.proofs.Shapes.{Shape, behind}
+use Rattle.ct_directive.specs.Groups.{Line, ControlLine, IfLine, ElifLine, ElseLine, EndifLine, opens_group, directive_line, line_by, line_of}
+use Rattle.ct_directive.proofs.Shapes.{Shape, behind}
 use Rattle.ct_preproc.specs.declared.state.State.{State}
 use Rattle.ct_preproc.specs.declared.state.Place.{Place}
 use Rattle.ct_preproc.specs.declared.state.Conditional.{Conditional}

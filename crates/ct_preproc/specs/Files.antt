@@ -11,7 +11,7 @@ use Rattle.ct_directive.specs.declared.faults.PreKind.TheVariants as pre
 use Rattle.ct_directive.specs.declared.forms.Header.{Header}
 use Rattle.ct_directive.specs.declared.heads.Heads.{Heads}
 use Rattle.ct_directive.specs.declared.search.Target.{Target}
-use Rattle.ct_groups.specs.Groups.{Group, Nothing, Text, Control, Section, Others, NoOthers, Elif, Else, IsOutline}
+use Rattle.ct_directive.specs.Groups.{Group, Nothing, Text, Control, Section, Others, NoOthers, Elif, Else, IsOutline}
 use Rattle.ct_preproc.specs.declared.state.State.{State}
 use Rattle.ct_preproc.specs.declared.state.Place.{Place}
 use Rattle.ct_preproc.specs.Directives.{Acts, Condition, FirstCondition}

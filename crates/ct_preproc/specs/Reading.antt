@@ -11,11 +11,11 @@ use Rattle.ct_base.specs.declared.limits.LimitKind.TheVariants.{Tokens}
 use Rattle.ct_base.specs.declared.memory.Fail.{Fail}
 use Rattle.ct_base.specs.declared.memory.Fail.TheVariants.{Fault, OutOfMemory}
 use Rattle.ct_token.specs.Lexing.{IsTokenization, LeavesOpen}
-use Rattle.ct_replace.specs.declared.definition.Macro.{Macro}
+use Rattle.ct_macro_call.specs.declared.definition.Macro.{Macro}
 use Rattle.ct_macro.specs.declared.faults.MacroFault.{MacroFault}
 use Rattle.ct_macro.specs.declared.faults.MacroKind.{MacroKind}
 use Rattle.ct_macro.specs.declared.faults.MacroKind.TheVariants as macro
-use Rattle.ct_replace.specs.Definition.{is_malformed, Defines, IsRedefined, without}
+use Rattle.ct_macro_call.specs.Definition.{is_malformed, Defines, IsRedefined, without}
 use Rattle.ct_macro.specs.Expansion.{IsExpansion, IsRefusal}
 use Rattle.ct_ppexpr.specs.declared.CondFault.{CondFault}
 use Rattle.ct_ppexpr.specs.Conditions.{HasValue}

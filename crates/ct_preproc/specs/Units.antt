@@ -3,8 +3,8 @@ use Rattle.std.specs.Prelude.{◌≡◌, ℕ, ◌^◌, ◌-◌, Bool, true, fals
 use Rattle.std.specs.FinMap.{get}
 use Rattle.ct_base.specs.declared.lexical.Token.{Token}
 use Rattle.ct_base.specs.declared.lexical.TokenKind.TheVariants as kinds
-use Rattle.ct_replace.specs.declared.definition.Macro.{Macro}
-use Rattle.ct_replace.specs.Definition.{is_malformed, without}
+use Rattle.ct_macro_call.specs.declared.definition.Macro.{Macro}
+use Rattle.ct_macro_call.specs.Definition.{is_malformed, without}
 use Rattle.ct_outside.specs.Files.{Files}
 use Rattle.ct_settings.specs.declared.record.Define.{Define}
 use Rattle.ct_directive.specs.declared.faults.PreFault.{PreFault}

@@ -2,7 +2,7 @@
 
 ghost use Rattle.std.specs.Prelude.{◌≡◌, ◌∷◌, IfOk};
 ghost use Rattle.ct_base.specs.Answers.{OnAnswer};
-ghost use Rattle.ct_groups.specs.Groups as groups;
+ghost use Rattle.ct_directive.specs.Groups as groups;
 ghost use Rattle.ct_preproc.specs.Directives as directives;
 ghost use Rattle.ct_preproc.specs.Steps as spec;
 

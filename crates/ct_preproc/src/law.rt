@@ -9,7 +9,7 @@ ghost use Rattle.ct_preproc.specs.Units.{IsUnit};
 ghost use Rattle.ct_preproc.specs.declared.units.SourceUnit.{SourceUnit};
 ghost use Rattle.ct_settings.specs.declared.record.Define.{Define};
 
-use ct_groups::one_outline;
+use ct_directive::one_outline;
 use ct_macro::one_expansion;
 use ct_ppexpr::one_condition;
 use ct_token::{one_open_comment, one_tokenization};

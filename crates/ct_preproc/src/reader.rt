@@ -14,8 +14,9 @@ use crate::paths::{is_among, number_of, with_path};
 use crate::reading::{Reading, begun, with_include};
 use crate::state::{Opens, Place, State};
 use ct_base::{Items, LimitKind, Mem, Out, Token};
-use ct_directive::{Header, PreFault, PreKind, Search, Target, directive_in, lines_of};
-use ct_groups::each_outline;
+use ct_directive::{
+    Header, PreFault, PreKind, Search, Target, directive_in, each_outline, lines_of,
+};
 use ct_outside::Finder;
 
 /// What reads the files of a unit: where includes are found.

@@ -1,6 +1,6 @@
 use Rattle.std.proofs.Common.{◌≡◌, sym, ap, ◌∙◌}
 use Rattle.std.specs.Prelude.{map}
-use Rattle.ct_replace.specs.declared.marked.Marked.{Marked}
+use Rattle.ct_macro_call.specs.declared.marked.Marked.{Marked}
 use Rattle.ct_macro.specs.Expansion.{done, stopped}
 use Rattle.ct_macro.proofs.Unique.{expands_one}
 use Rattle.ct_macro.proofs.expanding.one_expansion.Goals as goal

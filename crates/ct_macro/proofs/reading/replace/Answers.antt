@@ -1,7 +1,7 @@
 use Rattle.std.proofs.Common.{refl, sym}
 use Rattle.std.proofs.lemmas.Bool.{false≢true}
 use Rattle.std.proofs.lemmas.Result.{IfOk-weaker}
-use Rattle.ct_replace.specs.Sets.{is_in}
+use Rattle.ct_macro_call.specs.Sets.{is_in}
 use Rattle.ct_macro.specs.Expansion.{kept, use_of_macro, reading_of_object}
 use Rattle.ct_macro.proofs.Readings.{hidden_reads, shown_reads, object_reads, uncalled_reads, called_reads}
 use Rattle.ct_macro.proofs.reading.replace.Goals as goal

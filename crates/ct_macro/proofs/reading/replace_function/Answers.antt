@@ -1,6 +1,6 @@
 use Rattle.std.proofs.Common.{rules, ◌≡◌, ◌∷◌, ◌++◌, [], ℕ, List, Option, ap, refl, sym, subst, ◌∙◌}
-use Rattle.ct_replace.specs.declared.marked.Marked.{Marked}
-use Rattle.ct_replace.specs.Calls.{IsOpenCall, IsCall, AreArguments, separators, arguments_for}
+use Rattle.ct_macro_call.specs.declared.marked.Marked.{Marked}
+use Rattle.ct_macro_call.specs.Calls.{IsOpenCall, IsCall, AreArguments, separators, arguments_for}
 use Rattle.ct_macro.proofs.Readings.{taken, open_call, bad_number, good_call, any_comma, some_commas}
 use Rattle.ct_macro.proofs.reading.replace_function.Goals as goal
 use Rattle.ct_macro.proofs.reading.replace_function.Goals.{then-macro_, else-macro_}

@@ -1,4 +1,4 @@
-use Rattle.ct_parser.proofs.Units.{one_unit}
+use Rattle.ct_grammar_laws.proofs.Units.{one_unit}
 use Rattle.ct_parser.proofs.laws.one_tree.Goals as goal
 
 pub returns : goal.returns

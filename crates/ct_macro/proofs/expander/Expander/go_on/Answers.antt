@@ -1,5 +1,5 @@
 use Rattle.std.proofs.Common.{rules, ◌≡◌, ◌∷◌, ◌++◌, [], List, length, ap, refl, sym, ◌∙◌, arith}
-use Rattle.ct_replace.specs.declared.marked.Marked.{Marked}
+use Rattle.ct_macro_call.specs.declared.marked.Marked.{Marked}
 use Rattle.std.proofs.lemmas.List.{append-nil}
 use Rattle.ct_macro.specs.declared.expander.Frame.{Frame}
 use Rattle.ct_macro.specs.Machine.{weight_each, weight_frames}

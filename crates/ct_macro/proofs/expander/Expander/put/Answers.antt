@@ -1,7 +1,7 @@
 use Rattle.std.proofs.Common.{rules, ◌++◌, ◌+◌, ◌<◌, ◌≤◌, List, length, ap, refl, sym, subst, arith}
-use Rattle.ct_replace.specs.declared.marked.Marked.{Marked}
+use Rattle.ct_macro_call.specs.declared.marked.Marked.{Marked}
 use Rattle.ct_macro.specs.declared.faults.MacroKind.TheVariants.{BadPaste, TooLong}
-use Rattle.ct_replace.specs.Substitution.{IsPut}
+use Rattle.ct_macro_call.specs.Substitution.{IsPut}
 use Rattle.ct_macro.specs.Expansion.{fault_at}
 use Rattle.ct_macro.specs.Machine.{weight_each, weight_frames}
 use Rattle.ct_macro.proofs.Steps.{fault_is, comes_moved, put_goes, unpasted_goes, too_long_goes, put_lighter}

@@ -1,5 +1,5 @@
 use Rattle.std.proofs.Common.{◌≤◌, List}
-use Rattle.ct_replace.specs.declared.marked.Marked.{Marked}
+use Rattle.ct_macro_call.specs.declared.marked.Marked.{Marked}
 use Rattle.ct_macro.specs.Expansion.{Outcome}
 use Rattle.ct_macro.specs.Machine.{Comes, weight}
 use Rattle.ct_macro.proofs.expander.Expander.run.Given as goal

@@ -1,6 +1,6 @@
 use Rattle.std.proofs.Common.{◌≡◌, ◌∙◌, ap, sym, subst, None, List, ◌∷◌, [], ◌++◌}
 use Rattle.std.specs.Map.{values_of}
-use Rattle.ct_replace.specs.Definition.{macro_named}
+use Rattle.ct_macro_call.specs.Definition.{macro_named}
 use Rattle.ct_macro.specs.Table.{IsTable}
 use Rattle.ct_macro.proofs.Tables.{Entry, added, added_values, added_table}
 use Rattle.ct_macro.proofs.table.Macros.define.Goals as goal

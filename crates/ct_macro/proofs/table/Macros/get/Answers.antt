@@ -1,5 +1,5 @@
 use Rattle.std.proofs.Common.{◌∙◌, ap}
-use Rattle.ct_replace.specs.Definition.{macro_named}
+use Rattle.ct_macro_call.specs.Definition.{macro_named}
 use Rattle.ct_macro.proofs.Tables.{found}
 use Rattle.ct_macro.proofs.table.Macros.get.Goals as goal
 

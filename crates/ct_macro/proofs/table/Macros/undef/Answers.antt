@@ -1,6 +1,6 @@
 use Rattle.std.proofs.Common.{◌∙◌, ap, subst, sym, List}
 use Rattle.std.specs.Map.{values_of}
-use Rattle.ct_replace.specs.Definition.{without}
+use Rattle.ct_macro_call.specs.Definition.{without}
 use Rattle.ct_macro.specs.Table.{IsTable}
 use Rattle.ct_macro.proofs.Tables.{Entry, removed, removed_table}
 use Rattle.ct_macro.proofs.table.Macros.undef.Goals as goal

@@ -1,7 +1,7 @@
 use Rattle.std.proofs.Common.{rules, ◌≡◌}
 use Rattle.ct_directive.specs.Forms.{object_like}
 use Rattle.ct_macro.specs.Table.{Refuses}
-use Rattle.ct_replace.specs.Definition.{without}
+use Rattle.ct_macro_call.specs.Definition.{without}
 use Rattle.ct_preproc.proofs.Defining.{refused_anew}
 use Rattle.ct_preproc.proofs.Replacing.{is_refused}
 use Rattle.ct_preproc.proofs.file.File.replaced.Goals as goal

@@ -1,0 +1,4 @@
+pub mod Taking
+pub mod Nodes
+pub mod Rules
+pub mod Wholes

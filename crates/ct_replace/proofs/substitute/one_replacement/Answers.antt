@@ -1,5 +1,0 @@
-use Rattle.ct_replace.proofs.Substituting.{one_is_put}
-use Rattle.ct_replace.proofs.substitute.one_replacement.Goals as goal
-
-pub returns : goal.returns
-returns c = λ call fulls a b one other. one_is_put c.one_tokenization.ensures call fulls a b one other
