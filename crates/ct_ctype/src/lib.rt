@@ -10,8 +10,6 @@ mod conversions;
 mod kinds;
 mod operations;
 mod structs;
-#[cfg(test)]
-mod tests;
 mod types;
 
 pub use conversions::{common, convert, promote};

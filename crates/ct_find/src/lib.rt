@@ -10,10 +10,6 @@ mod rows;
 mod search;
 mod sets;
 mod starts;
-#[cfg(test)]
-mod tests;
-#[cfg(test)]
-mod tree_tests;
 mod walking;
 
 pub use files::{Files, FindFault};

@@ -14,8 +14,6 @@ mod parts;
 mod places;
 mod plain;
 mod statements;
-#[cfg(test)]
-mod tests;
 mod words;
 
 pub use files::read;

@@ -2,8 +2,6 @@
 #![tactic(auto)]
 
 mod law;
-#[cfg(test)]
-mod tests;
 
 ghost use Rattle.std.specs.Prelude.{◌≡◌, MatchOption, All};
 ghost use Rattle.std.specs.Bool.{MatchBool};

@@ -6,8 +6,6 @@ mod expanding;
 mod faults;
 mod reading;
 mod table;
-#[cfg(test)]
-mod tests;
 
 pub use ct_macro_call::Macro;
 pub use expanding::{Expansion, expand, one_expansion};

@@ -10,8 +10,6 @@ mod mem_tree;
 mod paths;
 mod sink;
 mod stored;
-#[cfg(test)]
-mod tests;
 mod texts;
 mod tree;
 

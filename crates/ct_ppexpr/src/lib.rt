@@ -3,8 +3,6 @@
 
 mod machine;
 mod open;
-#[cfg(test)]
-mod tests;
 mod values;
 mod words;
 

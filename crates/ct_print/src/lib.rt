@@ -5,8 +5,6 @@ mod declarations;
 mod expressions;
 mod putting;
 mod statements;
-#[cfg(test)]
-mod tests;
 mod words;
 
 ghost use Rattle.std.specs.Prelude.{◌≡◌, ℕ, List, [], ◌++◌, IfOk, OnOk, OnErr};

@@ -3,8 +3,6 @@
 
 mod counts;
 mod logs;
-#[cfg(test)]
-mod tests;
 mod writing;
 
 pub use counts::status;

@@ -2,16 +2,12 @@
 #![tactic(auto)]
 
 mod defines;
-#[cfg(test)]
-mod file_tests;
 mod names;
 mod paths;
 mod record;
 mod rows;
 mod sections;
 mod table;
-#[cfg(test)]
-mod tests;
 mod texts;
 mod values;
 

@@ -5,8 +5,6 @@ mod classes;
 mod constants;
 mod lines;
 mod scan;
-#[cfg(test)]
-mod tests;
 
 ghost use Rattle.std.specs.Prelude.{◌≡◌, ℕ, ◌-◌, ◌^◌, ◌<◌, List, IfOk, length};
 ghost use Rattle.ct_token.specs.Constants.{Decodes};

@@ -7,8 +7,6 @@ mod mark;
 mod node;
 mod scalars;
 mod stack;
-#[cfg(test)]
-mod tests;
 mod text;
 mod values;
 
