@@ -12,7 +12,7 @@ use Rattle.ct_form.specs.declared.names.Binding.{Binding}
 use Rattle.ct_form.specs.declared.names.Signature.{Signature}
 use Rattle.ct_form.specs.declared.places.Place.{Place}
 use Rattle.ct_form.specs.declared.statements.Context.{Context}
-use Rattle.ct_form.specs.declared.words.Miss.{Miss}
+use Rattle.ct_form.specs.declared.words.NoMatch.{NoMatch}
 use Rattle.ct_form.specs.Words.{Nothing, Stands, Absent, StandsName}
 use Rattle.ct_form.specs.Names.{number_of}
 use Rattle.ct_form.specs.Expressions.{IsExpression, IsCall, int}
@@ -27,7 +27,7 @@ none_or_some : {A : Type 0} {x : A} → None ≡ Some x → ⊥
 none_or_some e = cc
 
 -- where no statement stands, a reader that missed has answered
-pub statement_missed : (context : Context) (room : ℕ) (scope : List Binding) (at : At) (result : Result (CoreStatement × Place) Miss) (miss : Miss)
+pub statement_missed : (context : Context) (room : ℕ) (scope : List Binding) (at : At) (result : Result (CoreStatement × Place) NoMatch) (miss : NoMatch)
     → IsErrAnd result (λ m. m ≡ miss) → Nothing (IsStatement context.functions.now context.unity context.gives_value room scope at)
     → AnswersStatement context room scope at result
 statement_missed context room scope at result miss e n =

@@ -14,7 +14,7 @@ use Rattle.ct_form.specs.declared.names.Signature.{Signature}
 use Rattle.ct_form.specs.declared.places.Place.{Place}
 use Rattle.ct_form.specs.declared.statements.Context.{Context}
 use Rattle.ct_form.specs.declared.statements.Inside.{Inside}
-use Rattle.ct_form.specs.declared.words.Miss.{Miss}
+use Rattle.ct_form.specs.declared.words.NoMatch.{NoMatch}
 use Rattle.ct_form.specs.Answers.{Answers}
 use Rattle.ct_form.specs.Expressions.{int}
 use Rattle.ct_form.specs.Form.{Before, Reads, StandsFunction, StandsInclude, start}
@@ -26,12 +26,12 @@ use Rattle.ct_form.specs.Words.{Stands, StandsName}
 abbrev pub at_of : Place → At
 at_of place = record { tokens = place.tokens.now; serial = place.serial; variables = place.variables }
 
-abbrev pub AnswersStatement : Context → ℕ → List Binding → At → Result (CoreStatement × Place) Miss → Type 0
+abbrev pub AnswersStatement : Context → ℕ → List Binding → At → Result (CoreStatement × Place) NoMatch → Type 0
 AnswersStatement context room scope at result =
     Answers {C = CoreStatement} {R = At} (λ found. found.0) (λ found. at_of found.1)
     (IsStatement context.functions.now context.unity context.gives_value room scope at) result
 
-abbrev pub AnswersBody : Context → ℕ → List Binding → List Binding → At → Result (Inside × Place) Miss → Type 0
+abbrev pub AnswersBody : Context → ℕ → List Binding → List Binding → At → Result (Inside × Place) NoMatch → Type 0
 AnswersBody context room scope own at result =
     Answers {C = List ℕ × List CoreStatement} {R = At} (λ found. (found.0.numbers, found.0.parts)) (λ found. at_of found.1)
     (λ what. IsBody context.functions.now context.unity context.gives_value room scope own at what.0 what.1) result
@@ -52,7 +52,7 @@ pub record IsDeclaration (signatures : List Signature) (scope own : List Binding
   pub after_is : after ≡ declared (begun at rest) name
 
 -- The core tree of a declaration, and the scope behind it.
-abbrev pub AnswersDeclaration : Context → List Binding → List Binding → At → List Token → List Binding → Result (ℕ × CoreStatement × Place) Miss → Type 0
+abbrev pub AnswersDeclaration : Context → List Binding → List Binding → At → List Token → List Binding → Result (ℕ × CoreStatement × Place) NoMatch → Type 0
 AnswersDeclaration context scope own at behind new result =
     Answers {C = CoreStatement × List Binding} {R = At} (λ found. (found.1, new)) (λ found. at_of found.2)
     (λ what after. (name : Token) × IsDeclaration context.functions.now scope own at behind what.0 name after
@@ -104,13 +104,13 @@ pub record IsDefinition (signatures : List Signature) (unity : Bool) (linkage : 
   pub rest_is : rest ≡ ending.tokens
 
 -- The function, the signatures with its own, and how many statements and declarations began up to its end.
-abbrev pub AnswersDefinition : List Signature → Bool → Heading → List Binding → At → List Signature → Result (CoreFunction × ℕ × Bor (List Token)) Miss → Type 0
+abbrev pub AnswersDefinition : List Signature → Bool → Heading → List Binding → At → List Signature → Result (CoreFunction × ℕ × Bor (List Token)) NoMatch → Type 0
 AnswersDefinition signatures unity heading own at new result =
     Answers {C = CoreFunction × List Signature × ℕ} {R = List Token} (λ found. (found.0, new, found.1)) (λ found. found.2.now)
     (λ what rest. IsDefinition signatures unity heading.linkage heading.gives_value heading.name.now own at what.0 what.2 rest
     × (what.1 ≡ signatures ++ signature_of heading.name.now heading.gives_value own ∷ [])) result
 
-abbrev pub AnswersFunction : List Signature → Bool → ℕ → List Token → List Signature → Result (CoreFunction × ℕ × Bor (List Token)) Miss → Type 0
+abbrev pub AnswersFunction : List Signature → Bool → ℕ → List Token → List Signature → Result (CoreFunction × ℕ × Bor (List Token)) NoMatch → Type 0
 AnswersFunction signatures unity serial tokens new result =
     Answers {C = CoreFunction × List Signature × ℕ} {R = List Token} (λ found. (found.0, new, found.1)) (λ found. found.2.now)
     (λ what rest. (signature : Signature) × IsFunction signatures unity serial tokens what.0 signature what.2 rest

@@ -1,6 +1,7 @@
 -- The words of a test file: its tokens without the ends of lines.
 use Rattle.std.specs.Prelude.{◌≡◌, ℕ, ◌==◌, ◌&&◌, ◌||◌, Bool, true, false, IsTrue, not, List, [], ◌∷◌, nat_eq, nat_le, ◌≤◌, bytes_eq, Option, Some, None, codes, decimal, if◌then◌else◌}
 use Rattle.std.specs.List.{starts_with, list_any}
+use Rattle.ct_base.specs.Bytes.{is_letter, is_name_byte}
 use Rattle.ct_base.specs.declared.lexical.Token.{Token}
 use Rattle.ct_base.specs.declared.lexical.TokenKind.{TokenKind}
 use Rattle.ct_base.specs.declared.lexical.TokenKind.TheVariants.{Name, Number, Char, Text, Punct, Other, Line}
@@ -57,16 +58,9 @@ c_words =
 abbrev pub begins_with : List ℕ → List ℕ → Bool
 begins_with text front = starts_with nat_eq text front
 
-abbrev pub is_letter : ℕ → Bool
-is_letter byte = (nat_le 65 byte && nat_le byte 90) || (nat_le 97 byte && nat_le byte 122)
-
 abbrev pub begins_with_letter : List ℕ → Bool
 begins_with_letter [] = false
 begins_with_letter (byte ∷ bytes) = is_letter byte
-
--- a byte of an identifier (6.4.2.1)
-abbrev pub is_name_byte : ℕ → Bool
-is_name_byte byte = is_letter byte || (byte == 95) || (nat_le 48 byte && nat_le byte 57)
 
 abbrev pub is_other_byte : ℕ → Bool
 is_other_byte byte = not (is_name_byte byte)

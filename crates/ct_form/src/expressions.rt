@@ -11,7 +11,7 @@ ghost use Rattle.ct_form.specs.Words.{Nothing};
 ghost use Rattle.ct_form.specs.Names.{type_of as function_type};
 
 use crate::names::{Binding, Signature, callee, number_of, type_of};
-use crate::words::{Miss, name, number, word};
+use crate::words::{NoMatch, name, number, word};
 use ct_base::{BinaryOp, Bytes, Items, Mem, Token};
 use ct_core::{CoreExpression, Scalar};
 use ct_ctype::IntKind;
@@ -95,7 +95,7 @@ impl<'a> Names<'a> {
         &self,
         room: u32,
         tokens: &'t [Token],
-    ) -> Result<(CoreExpression, &'t [Token]), Miss>
+    ) -> Result<(CoreExpression, &'t [Token]), NoMatch>
         ensures { Answers (λ found. found.0) (λ found. found.1.now)
             (IsExpression self.now.functions.now self.now.scope.now room tokens.now) result }
     {
@@ -109,7 +109,11 @@ impl<'a> Names<'a> {
     }
 
     #[cycle(expression)]
-    fn sum<'t>(&self, room: u32, tokens: &'t [Token]) -> Result<(CoreExpression, &'t [Token]), Miss>
+    fn sum<'t>(
+        &self,
+        room: u32,
+        tokens: &'t [Token],
+    ) -> Result<(CoreExpression, &'t [Token]), NoMatch>
         ensures { Answers (λ found. found.0) (λ found. found.1.now)
             (IsSum self.now.functions.now self.now.scope.now room tokens.now) result }
     {
@@ -127,7 +131,7 @@ impl<'a> Names<'a> {
         &self,
         room: u32,
         tokens: &'t [Token],
-    ) -> Result<(CoreExpression, &'t [Token]), Miss>
+    ) -> Result<(CoreExpression, &'t [Token]), NoMatch>
         ensures { Answers (λ found. found.0) (λ found. found.1.now)
             (IsUnit self.now.functions.now self.now.scope.now room tokens.now) result }
     {
@@ -142,7 +146,7 @@ impl<'a> Names<'a> {
             return self.value_of_call(room, tokens);
         }
         let Some(variable) = number_of(self.scope, name.text.as_slice()) else {
-            return Err(Miss::Elsewhere);
+            return Err(NoMatch::Elsewhere);
         };
         Ok((value_of(self.alloc, variable)?, rest))
     }
@@ -153,12 +157,12 @@ impl<'a> Names<'a> {
         &self,
         room: u32,
         inside: &'t [Token],
-    ) -> Result<(CoreExpression, &'t [Token]), Miss>
+    ) -> Result<(CoreExpression, &'t [Token]), NoMatch>
         ensures { Answers (λ found. found.0) (λ found. found.1.now)
             (IsGroup self.now.functions.now self.now.scope.now room inside.now) result }
     {
         if room == 0 {
-            return Err(Miss::Elsewhere);
+            return Err(NoMatch::Elsewhere);
         }
         let (core, middle) = self.expression(room - 1, inside)?;
         let rest = word(middle, b")")?;
@@ -171,7 +175,7 @@ impl<'a> Names<'a> {
         &self,
         room: u32,
         tokens: &'t [Token],
-    ) -> Result<(CoreExpression, &'t [Token]), Miss>
+    ) -> Result<(CoreExpression, &'t [Token]), NoMatch>
         ensures { Answers (λ found. found.0) (λ found. found.1.now)
             (IsValueOfCall self.now.functions.now self.now.scope.now room tokens.now) result }
     {
@@ -179,7 +183,7 @@ impl<'a> Names<'a> {
         if signature.gives_value {
             Ok((core, rest))
         } else {
-            Err(Miss::Elsewhere)
+            Err(NoMatch::Elsewhere)
         }
     }
 
@@ -189,7 +193,7 @@ impl<'a> Names<'a> {
         &self,
         room: u32,
         tokens: &'t [Token],
-    ) -> Result<(&'a Signature, CoreExpression, &'t [Token]), Miss>
+    ) -> Result<(&'a Signature, CoreExpression, &'t [Token]), NoMatch>
         ensures { Answers {C = signature × expression} (λ found. (found.0.now, found.1)) (λ found. found.2.now)
             (λ what. IsCall self.now.functions.now self.now.scope.now room tokens.now what.0 what.1) result }
     {
@@ -197,14 +201,14 @@ impl<'a> Names<'a> {
         let inside = word(behind, b"(")?;
         let name = name.text.as_slice();
         let Some(signature) = callee(self.functions, self.scope, name) else {
-            return Err(Miss::Elsewhere);
+            return Err(NoMatch::Elsewhere);
         };
         if room == 0 {
-            return Err(Miss::Elsewhere);
+            return Err(NoMatch::Elsewhere);
         }
         let (arguments, rest) = self.arguments(room - 1, inside)?;
         if arguments.len() != signature.parameters as usize {
-            return Err(Miss::Elsewhere);
+            return Err(NoMatch::Elsewhere);
         }
         let core = call_of(self.alloc, signature, name, arguments)?;
         Ok((signature, core, rest))
@@ -216,7 +220,7 @@ impl<'a> Names<'a> {
         &self,
         room: u32,
         tokens: &'t [Token],
-    ) -> Result<(Items<CoreExpression>, &'t [Token]), Miss>
+    ) -> Result<(Items<CoreExpression>, &'t [Token]), NoMatch>
         ensures { Answers (λ found. found.0) (λ found. found.1.now)
             (IsArguments self.now.functions.now self.now.scope.now room tokens.now) result }
     {
@@ -232,7 +236,7 @@ impl<'a> Names<'a> {
         &self,
         room: u32,
         tokens: &'t [Token],
-    ) -> Result<(Items<CoreExpression>, &'t [Token]), Miss>
+    ) -> Result<(Items<CoreExpression>, &'t [Token]), NoMatch>
         ensures { Answers (λ found. found.0) (λ found. found.1.now)
             (IsList self.now.functions.now self.now.scope.now room tokens.now) result }
     {

@@ -10,7 +10,7 @@ ghost use Rattle.ct_form.specs.Readers.{HasNoItem, ReadsUpTo};
 
 use crate::functions::function;
 use crate::outside::Outside;
-use crate::words::{Miss, next};
+use crate::words::{NoMatch, next};
 use ct_base::{Bytes, Fail, Items, Mem, Out, OutOfMemory, Text, Token, TokenKind};
 use ct_core::{CoreFunction, CoreUnit, Space};
 use ct_ctype::Structs;
@@ -103,8 +103,8 @@ fn items(alloc: Global, tokens: &[Token]) -> Mem<(Items<CoreFunction>, &[Token])
                 serial = next;
                 rest = after;
             }
-            Err(Miss::Elsewhere) => return Ok((functions, rest)),
-            Err(Miss::OutOfMemory) => return Err(OutOfMemory),
+            Err(NoMatch::Elsewhere) => return Ok((functions, rest)),
+            Err(NoMatch::OutOfMemory) => return Err(OutOfMemory),
         }
     }
 }

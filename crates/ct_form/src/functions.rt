@@ -13,7 +13,7 @@ use crate::names::{Binding, Signature, has_name, is_declared, type_of};
 use crate::parts::binding_of;
 use crate::places::Place;
 use crate::statements::{Context, Inside, MOST_VARIABLES};
-use crate::words::{Miss, name, word};
+use crate::words::{NoMatch, name, word};
 use ct_base::{Bytes, Items, Mem, Token};
 use ct_core::{CoreFunction, CoreStatement, Linkage};
 use std::alloc::Global;
@@ -41,7 +41,7 @@ fn linkage(tokens: &[Token]) -> (Linkage, &[Token])
 }
 
 /// Whether a function gives a value, by the word for its result, and what follows that.
-fn gives_value(tokens: &[Token]) -> Result<(bool, &[Token]), Miss>
+fn gives_value(tokens: &[Token]) -> Result<(bool, &[Token]), NoMatch>
     ensures { Answers (λ found. found.0) (λ found. found.1.now) (IsResult tokens.now) result }
 {
     if let Ok(rest) = word(tokens, b"void") {
@@ -52,7 +52,7 @@ fn gives_value(tokens: &[Token]) -> Result<(bool, &[Token]), Miss>
 }
 
 /// The heading of a function up to its opening parenthesis, and what follows that.
-fn heading_of(tokens: &[Token]) -> Result<(Heading<'_>, &[Token]), Miss>
+fn heading_of(tokens: &[Token]) -> Result<(Heading<'_>, &[Token]), NoMatch>
     ensures { Answers {C = core_linkage × Bool × token} (λ found. (found.0.linkage, found.0.gives_value, found.0.name.now)) (λ found. found.1.now)
         (λ what. IsHeading tokens.now what.0 what.1 what.2) result }
 {
@@ -75,7 +75,7 @@ fn parameter<'t>(
     alloc: Global,
     scope: &mut Vec<Binding>,
     place: Place<'t>,
-) -> Result<Place<'t>, Miss>
+) -> Result<Place<'t>, NoMatch>
     ensures { Answers {C = List bound} {R = At} (λ _. scope.new.items) at_of (IsParameter scope.old.items (at_of place.entry)) result }
 {
     let behind = word(place.tokens, b"int")?;
@@ -83,7 +83,7 @@ fn parameter<'t>(
     if is_declared(scope.as_slice(), name.text.as_slice())
         || place.variables.len() >= MOST_VARIABLES
     {
-        return Err(Miss::Elsewhere);
+        return Err(NoMatch::Elsewhere);
     }
     let number = place.variables.len() as u32;
     scope.push(binding_of(alloc, name, number)?)?;
@@ -93,7 +93,7 @@ fn parameter<'t>(
 
 /// One parameter or more, with the closing parenthesis: the scope in which they are declared, and
 /// the place behind them.
-fn parameters(alloc: Global, place: Place<'_>) -> Result<(Vec<Binding>, Place<'_>), Miss>
+fn parameters(alloc: Global, place: Place<'_>) -> Result<(Vec<Binding>, Place<'_>), NoMatch>
     ensures { Answers {C = List bound} {R = At} (λ found. found.0.items) (λ found. at_of found.1) (IsParameters [] (at_of place.entry)) result }
 {
     let mut scope = Vec::new(alloc);
@@ -110,7 +110,7 @@ fn parameters(alloc: Global, place: Place<'_>) -> Result<(Vec<Binding>, Place<'_
 
 /// What stands between the parentheses of the heading, with the closing one: the scope in which
 /// the parameters are declared, and the place behind them.
-fn parameter_list(alloc: Global, place: Place<'_>) -> Result<(Vec<Binding>, Place<'_>), Miss>
+fn parameter_list(alloc: Global, place: Place<'_>) -> Result<(Vec<Binding>, Place<'_>), NoMatch>
     ensures { Answers {C = List bound} {R = At} (λ found. found.0.items) (λ found. at_of found.1) (IsParameterList (at_of place.entry)) result }
 {
     if let Ok(behind) = word(place.tokens, b"void") {
@@ -150,7 +150,7 @@ pub fn function<'t>(
     unity: bool,
     serial: u32,
     tokens: &'t [Token],
-) -> Result<(CoreFunction, u32, &'t [Token]), Miss>
+) -> Result<(CoreFunction, u32, &'t [Token]), NoMatch>
     ensures { AnswersFunction signatures.old.items unity serial tokens.now signatures.new.items result }
 {
     let (heading, first) = heading_of(tokens)?;
@@ -171,14 +171,14 @@ fn definition<'t>(
     heading: Heading<'t>,
     mut scope: Vec<Binding>,
     place: Place<'t>,
-) -> Result<(CoreFunction, u32, &'t [Token]), Miss>
+) -> Result<(CoreFunction, u32, &'t [Token]), NoMatch>
     requires { length scope.items ≤ 128 }
     ensures { AnswersDefinition signatures.old.items unity heading.entry scope.items (at_of place.entry) signatures.new.items result }
 {
     let name = heading.name;
     let signature = signature_of(alloc, name, heading.gives_value, scope.as_slice())?;
     if has_name(signatures.as_slice(), name.text.as_slice()) || !is_allowed(&signature) {
-        return Err(Miss::Elsewhere);
+        return Err(NoMatch::Elsewhere);
     }
     let inside = word(place.tokens, b"{")?;
     let kind = type_of(alloc, &signature)?;

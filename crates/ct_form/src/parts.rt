@@ -10,7 +10,7 @@ ghost use Rattle.ct_form.specs.Statements.{IsPair, IsStart, IsTest, assertion_co
 
 use crate::expressions::Names;
 use crate::names::Binding;
-use crate::words::{Miss, word};
+use crate::words::{NoMatch, word};
 use ct_base::{Bytes, Items, Mem, Token};
 use ct_core::{CoreExpression, Mark, Variable};
 use ct_ctype::{CType, FunctionType, IntKind};
@@ -22,7 +22,7 @@ pub const PARENTHESES: u32 = 64;
 
 impl<'a> Names<'a> {
     /// `( expr )` at the front of the tokens, and what follows it.
-    pub fn test<'t>(&self, tokens: &'t [Token]) -> Result<(CoreExpression, &'t [Token]), Miss>
+    pub fn test<'t>(&self, tokens: &'t [Token]) -> Result<(CoreExpression, &'t [Token]), NoMatch>
         ensures { Answers (λ found. found.0) (λ found. found.1.now)
             (IsTest self.now.functions.now self.now.scope.now tokens.now) result }
     {
@@ -37,7 +37,7 @@ impl<'a> Names<'a> {
     pub fn start<'t>(
         &self,
         tokens: &'t [Token],
-    ) -> Result<(Option<CoreExpression>, &'t [Token]), Miss>
+    ) -> Result<(Option<CoreExpression>, &'t [Token]), NoMatch>
         ensures { Answers {C = Option expression} (λ found. found.0) (λ found. found.1.now)
             (IsStart self.now.functions.now self.now.scope.now tokens.now) result }
     {
@@ -52,7 +52,7 @@ impl<'a> Names<'a> {
     pub fn pair<'t>(
         &self,
         tokens: &'t [Token],
-    ) -> Result<(CoreExpression, CoreExpression, &'t [Token]), Miss>
+    ) -> Result<(CoreExpression, CoreExpression, &'t [Token]), NoMatch>
         ensures { Answers {C = expression × expression} (λ found. (found.0, found.1)) (λ found. found.2.now)
             (λ both. IsPair self.now.functions.now self.now.scope.now tokens.now both.0 both.1) result }
     {

@@ -12,7 +12,7 @@ use crate::names::{Binding, number_of};
 use crate::parts::{PARENTHESES, assertion_core};
 use crate::places::Place;
 use crate::statements::Context;
-use crate::words::{Miss, word};
+use crate::words::{NoMatch, word};
 use ct_base::Token;
 use ct_core::{CoreExpression, CoreStatement};
 use sqlite_items::Boxed;
@@ -23,7 +23,7 @@ impl<'a> Context<'a> {
         &self,
         scope: &[Binding],
         tokens: &'t [Token],
-    ) -> Result<(CoreExpression, &'t [Token]), Miss>
+    ) -> Result<(CoreExpression, &'t [Token]), NoMatch>
         ensures { Answers (λ found. found.0) (λ found. found.1.now)
             (IsTest self.now.functions.now scope.now tokens.now) result }
     {
@@ -40,7 +40,7 @@ impl<'a> Context<'a> {
         &self,
         scope: &[Binding],
         tokens: &'t [Token],
-    ) -> Result<(Option<CoreExpression>, &'t [Token]), Miss>
+    ) -> Result<(Option<CoreExpression>, &'t [Token]), NoMatch>
         ensures { Answers {C = Option expression} (λ found. found.0) (λ found. found.1.now)
             (IsStart self.now.functions.now scope.now tokens.now) result }
     {
@@ -59,7 +59,7 @@ impl<'a> Context<'a> {
         place: Place<'t>,
         target: &'t Token,
         middle: &'t [Token],
-    ) -> Result<(CoreStatement, Place<'t>), Miss>
+    ) -> Result<(CoreStatement, Place<'t>), NoMatch>
         requires { StandsName place.tokens.now target.now middle.now }
         ensures { (room : ℕ) → AnswersStatement self.now room scope.now (at_of place.entry) result }
     {
@@ -77,14 +77,14 @@ impl<'a> Context<'a> {
         target: &'t Token,
         middle: &'t [Token],
         behind: &'t [Token],
-    ) -> Result<(CoreStatement, Place<'t>), Miss>
+    ) -> Result<(CoreStatement, Place<'t>), NoMatch>
         requires name { StandsName place.tokens.now target.now middle.now }
         requires sign { Stands (codes "=") middle.now behind.now }
         ensures { (room : ℕ) → AnswersStatement self.now room scope.now (at_of place.entry) result }
     {
         let mark = place.mark();
         let Some(variable) = number_of(scope, target.text.as_slice()) else {
-            return Err(Miss::Elsewhere);
+            return Err(NoMatch::Elsewhere);
         };
         let names = Names {
             alloc: self.alloc,
@@ -107,7 +107,7 @@ impl<'a> Context<'a> {
         place: Place<'t>,
         target: &'t Token,
         middle: &'t [Token],
-    ) -> Result<(CoreStatement, Place<'t>), Miss>
+    ) -> Result<(CoreStatement, Place<'t>), NoMatch>
         requires name { StandsName place.tokens.now target.now middle.now }
         requires sign { Absent (codes "=") middle.now }
         ensures { (room : ℕ) → AnswersStatement self.now room scope.now (at_of place.entry) result }
@@ -130,12 +130,12 @@ impl<'a> Context<'a> {
         scope: &[Binding],
         place: Place<'t>,
         behind: &'t [Token],
-    ) -> Result<(CoreStatement, Place<'t>), Miss>
+    ) -> Result<(CoreStatement, Place<'t>), NoMatch>
         requires { Stands (codes "return") place.tokens.now behind.now }
         ensures { (room : ℕ) → AnswersStatement self.now room scope.now (at_of place.entry) result }
     {
         if !self.gives_value {
-            return Err(Miss::Elsewhere);
+            return Err(NoMatch::Elsewhere);
         }
         let mark = place.mark();
         let names = Names {
@@ -155,12 +155,12 @@ impl<'a> Context<'a> {
         scope: &[Binding],
         place: Place<'t>,
         behind: &'t [Token],
-    ) -> Result<(CoreStatement, Place<'t>), Miss>
+    ) -> Result<(CoreStatement, Place<'t>), NoMatch>
         requires { Stands (codes "TEST_ASSERT_EQUAL_INT") place.tokens.now behind.now }
         ensures { (room : ℕ) → AnswersStatement self.now room scope.now (at_of place.entry) result }
     {
         if !self.unity {
-            return Err(Miss::Elsewhere);
+            return Err(NoMatch::Elsewhere);
         }
         let mark = place.mark();
         let names = Names {

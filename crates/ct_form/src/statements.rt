@@ -8,7 +8,7 @@ use crate::expressions::INT;
 use crate::names::{Binding, Signature, is_declared};
 use crate::parts::binding_of;
 use crate::places::Place;
-use crate::words::{Miss, name, word};
+use crate::words::{NoMatch, name, word};
 use ct_base::{Items, Token};
 use ct_core::CoreStatement;
 use sqlite_items::Boxed;
@@ -43,7 +43,7 @@ impl<'a> Context<'a> {
         room: u32,
         scope: &mut Vec<Binding>,
         place: Place<'t>,
-    ) -> Result<(CoreStatement, Place<'t>), Miss>
+    ) -> Result<(CoreStatement, Place<'t>), NoMatch>
         ensures scope { IfOk result (λ _. scope.new.items ≡ scope.old.items) }
         ensures statement { AnswersStatement self.now room scope.old.items (at_of place.entry) result }
     {
@@ -65,7 +65,7 @@ impl<'a> Context<'a> {
         if let Ok(behind) = word(place.tokens, b"TEST_ASSERT_EQUAL_INT") {
             return self.assertion(scope.as_slice(), place, behind);
         }
-        Err(Miss::Elsewhere)
+        Err(NoMatch::Elsewhere)
     }
 
     /// A block, behind its `{`.
@@ -76,13 +76,13 @@ impl<'a> Context<'a> {
         scope: &mut Vec<Binding>,
         place: Place<'t>,
         inside: &'t [Token],
-    ) -> Result<(CoreStatement, Place<'t>), Miss>
+    ) -> Result<(CoreStatement, Place<'t>), NoMatch>
         requires { Stands (codes "{") place.tokens.now inside.now }
         ensures scope { IfOk result (λ _. scope.new.items ≡ scope.old.items) }
         ensures statement { AnswersStatement self.now room scope.old.items (at_of place.entry) result }
     {
         if room == 0 {
-            return Err(Miss::Elsewhere);
+            return Err(NoMatch::Elsewhere);
         }
         let mark = place.mark();
         let outer = scope.len();
@@ -100,13 +100,13 @@ impl<'a> Context<'a> {
         scope: &mut Vec<Binding>,
         place: Place<'t>,
         behind: &'t [Token],
-    ) -> Result<(CoreStatement, Place<'t>), Miss>
+    ) -> Result<(CoreStatement, Place<'t>), NoMatch>
         requires { Stands (codes "if") place.tokens.now behind.now }
         ensures scope { IfOk result (λ _. scope.new.items ≡ scope.old.items) }
         ensures statement { AnswersStatement self.now room scope.old.items (at_of place.entry) result }
     {
         if room == 0 {
-            return Err(Miss::Elsewhere);
+            return Err(NoMatch::Elsewhere);
         }
         let mark = place.mark();
         let (test, inside) = self.test(scope.as_slice(), behind)?;
@@ -129,13 +129,13 @@ impl<'a> Context<'a> {
         scope: &mut Vec<Binding>,
         place: Place<'t>,
         behind: &'t [Token],
-    ) -> Result<(CoreStatement, Place<'t>), Miss>
+    ) -> Result<(CoreStatement, Place<'t>), NoMatch>
         requires { Stands (codes "while") place.tokens.now behind.now }
         ensures scope { IfOk result (λ _. scope.new.items ≡ scope.old.items) }
         ensures statement { AnswersStatement self.now room scope.old.items (at_of place.entry) result }
     {
         if room == 0 {
-            return Err(Miss::Elsewhere);
+            return Err(NoMatch::Elsewhere);
         }
         let mark = place.mark();
         let (test, inside) = self.test(scope.as_slice(), behind)?;
@@ -154,7 +154,7 @@ impl<'a> Context<'a> {
         scope: &mut Vec<Binding>,
         outer: usize,
         place: Place<'t>,
-    ) -> Result<(Inside, Place<'t>), Miss>
+    ) -> Result<(Inside, Place<'t>), NoMatch>
         requires { outer ≤ length scope.old.items }
         ensures scope { IfOk result (λ _. take outer scope.new.items ≡ take outer scope.old.items) }
         ensures body { AnswersBody self.now room (take outer scope.old.items) (drop outer scope.old.items) (at_of place.entry) result }
@@ -187,7 +187,7 @@ impl<'a> Context<'a> {
         outer: usize,
         place: Place<'t>,
         behind: &'t [Token],
-    ) -> Result<(u32, CoreStatement, Place<'t>), Miss>
+    ) -> Result<(u32, CoreStatement, Place<'t>), NoMatch>
         requires bound { outer ≤ length scope.old.items }
         requires stands { Stands (codes "int") place.tokens.now behind.now }
         ensures number { IfOk result (λ found. found.0 ≡ length place.entry.variables) }
@@ -197,7 +197,7 @@ impl<'a> Context<'a> {
         if is_declared(&scope[outer..], name.text.as_slice())
             || place.variables.len() >= MOST_VARIABLES
         {
-            return Err(Miss::Elsewhere);
+            return Err(NoMatch::Elsewhere);
         }
         let mark = place.mark();
         let number = place.variables.len() as u32;

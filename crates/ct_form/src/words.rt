@@ -5,9 +5,9 @@ ghost use Rattle.std.specs.List.{list_any};
 ghost use Rattle.std.specs.Option.{option_map};
 ghost use Rattle.std.specs.Str.{bytes_eq};
 ghost use Rattle.ct_base.specs.declared.lexical.Token.{Token as token};
-ghost use Rattle.ct_form.specs.Words.{Absent, Nothing, IsNumber, Stands, StandsName, StandsNumber, begins_with_letter as letter_first, c_words, first_word, is_free_name as free_name, is_identifier as identifier, is_letter as letter, is_name_byte as name_byte, is_other_byte as other_byte};
+ghost use Rattle.ct_form.specs.Words.{Absent, Nothing, IsNumber, Stands, StandsName, StandsNumber, begins_with_letter as letter_first, c_words, first_word, is_free_name as free_name, is_identifier as identifier, is_other_byte as other_byte};
 
-use ct_base::{Mem, Token, TokenKind};
+use ct_base::{Mem, Token, TokenKind, is_letter, is_name_byte};
 use std::alloc::{AllocError, AllocFailed, Global};
 
 /// The words of C that begin with no underscore (C11 6.4.1), and `asm`.
@@ -54,42 +54,42 @@ const INT_MAX: u32 = 2147483647;
 
 /// Why a part of the form was not read.
 #[derive(Clone, Copy, Debug, PartialEq, Eq)]
-pub enum Miss {
+pub enum NoMatch {
     /// No such part stands there.
     Elsewhere,
     OutOfMemory,
 }
 
-impl From<AllocError> for Miss {
+impl From<AllocError> for NoMatch {
     ghost use Rattle.std.specs.Prelude.{◌≡◌};
-    ghost use Rattle.ct_form.specs.declared.words.Miss.TheVariants.{OutOfMemory};
+    ghost use Rattle.ct_form.specs.declared.words.NoMatch.TheVariants.{OutOfMemory};
 
     ghost from_gives = { λ _ miss. miss ≡ OutOfMemory };
 
-    fn from(_error: AllocError) -> Miss {
-        Miss::OutOfMemory
+    fn from(_error: AllocError) -> NoMatch {
+        NoMatch::OutOfMemory
     }
 }
 
-impl<T: Drop> From<AllocFailed<T>> for Miss {
+impl<T: Drop> From<AllocFailed<T>> for NoMatch {
     ghost use Rattle.std.specs.Prelude.{◌≡◌};
-    ghost use Rattle.ct_form.specs.declared.words.Miss.TheVariants.{OutOfMemory};
+    ghost use Rattle.ct_form.specs.declared.words.NoMatch.TheVariants.{OutOfMemory};
 
     ghost from_gives = { λ _ miss. miss ≡ OutOfMemory };
 
-    fn from(_error: AllocFailed<T>) -> Miss {
-        Miss::OutOfMemory
+    fn from(_error: AllocFailed<T>) -> NoMatch {
+        NoMatch::OutOfMemory
     }
 }
 
-impl From<ct_base::OutOfMemory> for Miss {
+impl From<ct_base::OutOfMemory> for NoMatch {
     ghost use Rattle.std.specs.Prelude.{◌≡◌};
-    ghost use Rattle.ct_form.specs.declared.words.Miss.TheVariants.{OutOfMemory};
+    ghost use Rattle.ct_form.specs.declared.words.NoMatch.TheVariants.{OutOfMemory};
 
     ghost from_gives = { λ _ miss. miss ≡ OutOfMemory };
 
-    fn from(_error: ct_base::OutOfMemory) -> Miss {
-        Miss::OutOfMemory
+    fn from(_error: ct_base::OutOfMemory) -> NoMatch {
+        NoMatch::OutOfMemory
     }
 }
 
@@ -107,21 +107,14 @@ pub fn next(tokens: &[Token]) -> Option<(&Token, &[Token])>
     None
 }
 
-/// Whether a byte is a letter (C11 5.2.1).
-fn is_letter(byte: u8) -> bool
-    ensures { result ≡ letter byte }
-{
-    matches!(byte, b'A'..=b'Z' | b'a'..=b'z')
-}
-
 /// What follows a word of this text, where one stands at the front.
-pub fn word<'a>(tokens: &'a [Token], text: &[u8]) -> Result<&'a [Token], Miss>
+pub fn word<'a>(tokens: &'a [Token], text: &[u8]) -> Result<&'a [Token], NoMatch>
     ensures found { IfOk result (λ rest. Stands text.now tokens.now rest.now) }
     ensures absent { OnErr result (Absent text.now tokens.now) }
 {
     match next(tokens) {
         Some((token, rest)) if token.text.as_slice() == text => Ok(rest),
-        _ => Err(Miss::Elsewhere),
+        _ => Err(NoMatch::Elsewhere),
     }
 }
 
@@ -144,13 +137,6 @@ fn begins_with_letter(text: &[u8]) -> bool
         Some(byte) => is_letter(*byte),
         None => false,
     }
-}
-
-/// Whether a byte may stand in an identifier (C11 6.4.2.1).
-fn is_name_byte(byte: u8) -> bool
-    ensures { result ≡ name_byte byte }
-{
-    is_letter(byte) || byte == b'_' || matches!(byte, b'0'..=b'9')
 }
 
 /// Whether a text has a byte that stands in no identifier.
@@ -179,7 +165,7 @@ fn is_free_name(text: &[u8]) -> bool
 }
 
 /// A name that stands at the front, and what follows it.
-pub fn name(tokens: &[Token]) -> Result<(&Token, &[Token]), Miss>
+pub fn name(tokens: &[Token]) -> Result<(&Token, &[Token]), NoMatch>
     ensures found { IfOk result (λ found. StandsName tokens.now found.0.now found.1.now) }
     ensures absent { OnErr result (Nothing (StandsName tokens.now)) }
 {
@@ -188,7 +174,7 @@ pub fn name(tokens: &[Token]) -> Result<(&Token, &[Token]), Miss>
             if matches!(token.kind, TokenKind::Name) && is_free_name(token.text.as_slice()) => {
             Ok((token, rest))
         }
-        _ => Err(Miss::Elsewhere),
+        _ => Err(NoMatch::Elsewhere),
     }
 }
 

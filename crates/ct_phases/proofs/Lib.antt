@@ -1,12 +1,4 @@
-pub mod AllNames
-pub mod During
-pub mod Goes
-pub mod Levels
-pub mod NameLaws
-pub mod Numbers
-pub mod Parts
 pub mod Positions
-pub mod Related
 pub mod RunnerApart
 pub mod RunnerCalls
 pub mod RunnerKin
@@ -25,8 +17,5 @@ pub mod RunnerTrees
 pub mod RunnerUnit
 pub mod RunnerValues
 pub mod RunnerWhole
-pub mod Spends
-pub mod Steps
 pub mod TableInOrder
 pub mod ToolMemory
-pub mod Verdicts

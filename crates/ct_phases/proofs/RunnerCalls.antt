@@ -18,9 +18,9 @@ use Rattle.ct_meaning.specs.World.{World, Where, Target, space_of, number_of, te
 use Rattle.ct_meaning.specs.Rules.{given, used, truth_in, apply_binary, apply_conversion, binary_value, converted_value, variable, address_in, literal, designator, function_value, load, store, initialise, equal_check, failed_at, assert_equal_int, begun_test_by, test_check, can_begin, run_test, in_test, without_test, run_end, run_phase, caught, run_call}
 use Rattle.ct_meaning.specs.Meaning.{Calls, enter, call_target, call_value, handed_call, built_in, apply_call, scalar_of_variable, initialise_parameter}
 use Rattle.ct_phases.specs.Linked.{is_ordinary}
-use Rattle.ct_phases.proofs.Related.{Agree, Keeps, Always, Equal, Each, SameCall, SameWhere, Kin, done, bind, weaker}
-use Rattle.ct_phases.proofs.Numbers.{same_values}
-use Rattle.ct_phases.proofs.Spends.{same_left}
+use Rattle.ct_meaning_laws.proofs.Related.{Agree, Keeps, Always, Equal, Each, SameCall, SameWhere, Kin, done, bind, weaker}
+use Rattle.ct_meaning_laws.proofs.Numbers.{same_values}
+use Rattle.ct_meaning_laws.proofs.Spends.{same_left}
 use Rattle.ct_phases.proofs.RunnerValues.{Safe, SameValue, SafeResult, safe_used, safe_address, safe_converted, safe_binary}
 use Rattle.ct_phases.proofs.RunnerRules.{Targets, Functions, Empties, BuiltIns, Nothings, Twins, Going, with_tool, SameRun, still_running}
 use Rattle.ct_phases.proofs.RunnerRules as rule

@@ -17,8 +17,8 @@ use Rattle.ct_meaning.specs.Doing.{Does}
 use Rattle.ct_meaning.specs.World.{World, Where, unit_space, space_of, variable_at, variable_of}
 use Rattle.ct_meaning.specs.Rules.{begin_objects, end_objects, variable_memory, object_bytes, structs_of, begun, begun_in}
 use Rattle.ct_meaning.specs.Program.{left_in}
-use Rattle.ct_phases.proofs.Related.{Agree, Keeps, Equal, Each, Entry, PlaceIn, SameCall, SameWhere}
-use Rattle.ct_phases.proofs.Numbers.{Any, same_where, same_frame}
+use Rattle.ct_meaning_laws.proofs.Related.{Agree, Keeps, Equal, Each, Entry, PlaceIn, SameCall, SameWhere}
+use Rattle.ct_meaning_laws.proofs.Numbers.{Any, same_where, same_frame}
 use Rattle.ct_phases.proofs.ToolMemory.{Own, own_front, put, next_put, new_put, without_put}
 use Rattle.ct_phases.proofs.RunnerValues.{SameValue}
 use Rattle.ct_phases.proofs.RunnerRules.{Targets, Functions, Empties, BuiltIns, Nothings, Twins, Going, with_tool, SameRun, still_running}

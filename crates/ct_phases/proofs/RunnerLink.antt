@@ -11,7 +11,7 @@ use Rattle.ct_meaning.specs.Program.{plain_world}
 use Rattle.ct_meaning.specs.Written.{written_world, functions_of, is_test, defines}
 use Rattle.ct_phases.specs.Linked.{IsLinked, function_in, definition_of, runner_of}
 use Rattle.ct_phases.specs.Runner.{runner_unit}
-use Rattle.ct_phases.proofs.Spends.{first_true, second_true}
+use Rattle.ct_meaning_laws.proofs.Spends.{first_true, second_true}
 use Rattle.ct_phases.proofs.Positions.{Placed, Found, Nowhere, placed}
 use Rattle.ct_phases.proofs.RunnerUnit.{set_up, tear_down, functions, of_runner, all_external, side, function_before, function_last, function_past, function_not}
 

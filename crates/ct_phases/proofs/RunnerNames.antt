@@ -11,7 +11,7 @@ use Rattle.ct_meaning.specs.World.{World, is_external, common_number}
 use Rattle.ct_meaning.specs.Written.{defines, functions_of, is_test, is_void, has_test_name}
 use Rattle.ct_phases.specs.Runner.{empty_function}
 use Rattle.ct_phases.specs.Linked.{IsLinked, IsTestProject, IsProjectUnit, IsProjectFunction, function_in, definition_of}
-use Rattle.ct_phases.proofs.Spends.{first_true, second_true}
+use Rattle.ct_meaning_laws.proofs.Spends.{first_true, second_true}
 use Rattle.ct_phases.proofs.Positions.{all_at}
 use Rattle.ct_phases.proofs.RunnerUnit.{main, set_up, tear_down, set_up_at, tear_down_at, function_before}
 use Rattle.ct_phases.proofs.RunnerLink.{tests_in, runner, all, plain, written, function_runner, common_same, common_of, runner_number, target_defined}

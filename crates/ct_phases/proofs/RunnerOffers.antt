@@ -15,7 +15,7 @@ use Rattle.ct_core.specs.BuiltIns.{built_in_of}
 use Rattle.ct_meaning.specs.World.{World, is_common, common_number, Given, target_of, inner_target, defined_target}
 use Rattle.ct_meaning.specs.Written.{defines}
 use Rattle.ct_phases.specs.Linked.{IsLinked, IsTestProject, IsProjectUnit, IsProjectFunction, Shares, Says, function_in}
-use Rattle.ct_phases.proofs.Spends.{first_true}
+use Rattle.ct_meaning_laws.proofs.Spends.{first_true}
 use Rattle.ct_phases.proofs.Positions.{Placed, Found, Nowhere, placed, all_at}
 use Rattle.ct_phases.proofs.RunnerUnit.{set_up, tear_down, OfRunner, IsSetUp, IsTearDown, IsMain, of_runner, side, function_before, function_past}
 use Rattle.ct_phases.proofs.RunnerLink.{tests_in, runner, all, plain, function_runner, runner_number, both}

@@ -11,8 +11,8 @@ use Rattle.ct_meaning.specs.Rules.{in_test, without_test, caught, run_call}
 use Rattle.ct_meaning.specs.Meaning.{enter, calls}
 use Rattle.ct_meaning.specs.Program.{outermost, left_in}
 use Rattle.ct_meaning.specs.Written.{phase}
-use Rattle.ct_phases.proofs.Related.{Agree, SameCall}
-use Rattle.ct_phases.proofs.Spends.{end_at}
+use Rattle.ct_meaning_laws.proofs.Related.{Agree, SameCall}
+use Rattle.ct_meaning_laws.proofs.Spends.{end_at}
 use Rattle.ct_phases.proofs.RunnerValues.{SameValue}
 use Rattle.ct_phases.proofs.RunnerRules.{Twins, Going, with_tool, SameRun}
 use Rattle.ct_phases.proofs.RunnerRun.{enters}

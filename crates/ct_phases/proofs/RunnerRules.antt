@@ -20,10 +20,10 @@ use Rattle.ct_meaning.specs.Rules.{stop, failed, failed_test, given, address_in,
 use Rattle.ct_meaning.specs.Meaning.{initialise_parameter}
 use Rattle.ct_meaning.specs.Program.{left_in}
 use Rattle.ct_phases.specs.Runner.{empty_function}
-use Rattle.ct_phases.specs.Names.{statement_names}
+use Rattle.ct_meaning_laws.specs.Names.{statement_names}
 use Rattle.ct_phases.specs.Linked.{is_ordinary}
-use Rattle.ct_phases.proofs.Related.{Agree, Lower, Keeps, Always, PlaceIn, SameCall, done}
-use Rattle.ct_phases.proofs.Spends.{stop_spends}
+use Rattle.ct_meaning_laws.proofs.Related.{Agree, Lower, Keeps, Always, PlaceIn, SameCall, done}
+use Rattle.ct_meaning_laws.proofs.Spends.{stop_spends}
 use Rattle.ct_phases.proofs.ToolMemory.{Own, put}
 use Rattle.ct_phases.proofs.RunnerValues.{Safe, SameValue, SafeResult, SafeStored, safe_address, safe_loaded, safe_stored, safe_first, put_stored, from_put, stored_put, first_put}
 

@@ -13,7 +13,7 @@ use Rattle.ct_meaning.specs.Rules.{failed}
 use Rattle.ct_meaning.specs.Meaning.{Calls, defined_body, row_body, body_of, calls}
 use Rattle.ct_phases.specs.Runner.{empty_function}
 use Rattle.ct_phases.specs.Linked.{is_ordinary}
-use Rattle.ct_phases.proofs.Related.{Agree, Keeps, Each, Endings, SameCall, Alike, Shared, Other, EnterKeeps, done, calls_keep, entered_at}
+use Rattle.ct_meaning_laws.proofs.Related.{Agree, Keeps, Each, Endings, SameCall, Alike, Shared, Other, EnterKeeps, done, calls_keep, entered_at}
 use Rattle.ct_phases.proofs.RunnerValues.{SameValue}
 use Rattle.ct_phases.proofs.RunnerRules.{Targets, Functions, Empties, BuiltIns, Nothings, Twins, Going, with_tool, SameRun}
 use Rattle.ct_phases.proofs.RunnerRules as rule

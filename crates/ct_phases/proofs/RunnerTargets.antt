@@ -12,7 +12,7 @@ use Rattle.ct_core.specs.declared.units.CoreFunction.{CoreFunction}
 use Rattle.ct_core.specs.declared.units.Definition.{Definition}
 use Rattle.ct_core.specs.BuiltIns.{built_in_of}
 use Rattle.ct_meaning.specs.World.{World, Row, Empty, common_number, number_of, unit_space, space_of, text_pointer, text_count, Target, Outside, Given, target_of, inner_target, defined_target, outer_target}
-use Rattle.ct_phases.specs.Names.{statement_names}
+use Rattle.ct_meaning_laws.specs.Names.{statement_names}
 use Rattle.ct_meaning.specs.Written.{defines}
 use Rattle.ct_phases.specs.Runner.{empty_function, main_function}
 use Rattle.ct_phases.specs.Linked.{IsLinked, IsTestProject, IsProjectUnit, IsProjectFunction, Says, function_in, definition_of, is_ordinary}

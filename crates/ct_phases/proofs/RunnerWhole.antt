@@ -27,8 +27,8 @@ use Rattle.ct_meaning.specs.Written.{is_test, test_of, functions_of, defines, te
 use Rattle.ct_phases.specs.Runner.{unmarked, procedure, call_statement, run_call, main_function, all_statements, test_statements, runner_unit}
 use Rattle.ct_meaning.specs.Rules as rule
 use Rattle.ct_phases.specs.Linked.{IsLinked, IsTestProject, function_in}
-use Rattle.ct_phases.proofs.Related.{SameCall}
-use Rattle.ct_phases.proofs.Spends.{began}
+use Rattle.ct_meaning_laws.proofs.Related.{SameCall}
+use Rattle.ct_meaning_laws.proofs.Spends.{began}
 use Rattle.ct_phases.proofs.Positions.{get_left, get_end}
 use Rattle.ct_phases.proofs.ToolMemory.{put}
 use Rattle.ct_phases.proofs.RunnerRules.{Going, with_tool}

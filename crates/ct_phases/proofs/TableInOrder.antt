@@ -12,7 +12,7 @@ use Rattle.ct_core.specs.BuiltIns.{built_in_rows, built_in_of}
 use Rattle.ct_core.specs.BuiltIns.{Row as BuiltInRow}
 use Rattle.ct_meaning.specs.World.{is_external}
 use Rattle.ct_phases.specs.Linked.{function_in, is_shared, definition_of, Shares, Says, IsLinked, definitions_from, unit_definitions, is_defined, built_in_definitions, table_in_order, AreNamedApart}
-use Rattle.ct_phases.proofs.Spends.{first_true, second_true}
+use Rattle.ct_meaning_laws.proofs.Spends.{first_true, second_true}
 use Rattle.ct_phases.proofs.Positions.{get_left}
 use Rattle.ct_phases.proofs.RunnerLink.{both, external_or}
 use Rattle.ct_phases.proofs.RunnerNames.{any_at}

@@ -1,4 +1,2 @@
-pub mod Names
 pub mod Runner
 pub mod Linked
-pub mod Laws

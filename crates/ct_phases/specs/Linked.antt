@@ -10,7 +10,7 @@ use Rattle.ct_core.specs.declared.units.Definition.{Definition}
 use Rattle.ct_core.specs.BuiltIns.{built_in_rows, built_in_of}
 use Rattle.ct_core.specs.BuiltIns.{Row as BuiltInRow}
 use Rattle.ct_meaning.specs.World.{is_external}
-use Rattle.ct_phases.specs.Names.{statement_names}
+use Rattle.ct_meaning_laws.specs.Names.{statement_names}
 use Rattle.ct_meaning.specs.Written.{is_test, functions_of, defines}
 use Rattle.ct_phases.specs.Runner.{runner_unit}
 

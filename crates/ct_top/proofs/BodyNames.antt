@@ -20,8 +20,8 @@ use Rattle.ct_form.specs.Expressions.{IsExpression, IsSum, IsSumOf, IsUnit, IsCa
 use Rattle.ct_form.specs.Statements as form
 use Rattle.ct_form.specs.Statements.{At, IsStart, IsStatement, IsBody, assertion_core}
 use Rattle.ct_phases.specs.Linked.{is_ordinary}
-use Rattle.ct_phases.specs.Names.{expression_names, statement_names, all_of}
-use Rattle.ct_phases.proofs.NameLaws as laws
+use Rattle.ct_meaning_laws.specs.Names.{expression_names, statement_names, all_of}
+use Rattle.ct_meaning_laws.proofs.NameLaws as laws
 use Rattle.ct_top.proofs.FreeNames.{free_parts}
 
 abbrev pub Ordinary : CoreExpression → Type 0

@@ -15,9 +15,9 @@ use Rattle.ct_form.specs.Functions.{IsFunction}
 use Rattle.ct_form.specs.Statements.{mark}
 use Rattle.ct_form.specs.Form.{Before, HasForm, Reads, StandsFunction, ends, include, function, outside, led_by, most_functions, start, unit_of, with_function, with_include}
 use Rattle.ct_phases.specs.Linked.{AreNamedApart, IsProjectFunction, IsProjectUnit, IsTestProject, function_in, is_ordinary, runner_of, table_in_order}
-use Rattle.ct_phases.specs.Names.{statement_names}
+use Rattle.ct_meaning_laws.specs.Names.{statement_names}
 use Rattle.ct_meaning.specs.Written.{is_test, written_log, written_world}
-use Rattle.ct_phases.proofs.NameLaws.{block_names}
+use Rattle.ct_meaning_laws.proofs.NameLaws.{block_names}
 use Rattle.ct_outside.specs.Files.{EachOnce}
 use Rattle.ct_top.specs.Meaning.{step_budget, unit_log}
 use Rattle.ct_top.proofs.BodyNames.{body_ordinary}

@@ -6,16 +6,9 @@ ghost use Rattle.ct_outside.specs.Files.{EachOnce};
 ghost use Rattle.ct_top.specs.Project as spec;
 
 use crate::refusing::same_test;
-use ct_base::{Fail, Out, Refusal, Text};
+use ct_base::{Fail, Out, Refusal, Text, first_of};
 use std::alloc::Global;
 use std::collections::BTreeSet;
-
-fn first_of(bytes: &[u8]) -> Option<(u8, &[u8])>
-    ensures { MatchOption result (bytes.now ≡ []) (λ found. bytes.now ≡ found.0 ∷ found.1.now) }
-{
-    let (first, rest) = bytes.split_first()?;
-    Some((*first, rest))
-}
 
 /// What stands behind the last slash of a path.
 #[tactic(auto, using(crate::proofs::NameLemmas::own_name))]

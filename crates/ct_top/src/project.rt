@@ -13,7 +13,7 @@ ghost use Rattle.ct_yaml.specs.Text.{Spells, text_lines};
 
 use crate::refusing::{bad_setting, limit_passed, no_project, no_yaml};
 use crate::stops::Stop;
-use ct_base::{Fail, LimitKind, Out, Refusal};
+use ct_base::{Fail, LimitKind, MEBIBYTE, Out, Refusal};
 use ct_outside::{Found, Tree};
 use ct_settings::{ProjectSettings, settings};
 use ct_yaml::{Node, read};
@@ -23,7 +23,7 @@ use std::alloc::Global;
 pub const PROJECT_FILE: &str = "project.yml";
 
 /// The most bytes that a file may have.
-const FILE_BYTES: u64 = 1048576;
+const FILE_BYTES: u64 = MEBIBYTE as u64;
 
 /// The bytes of the project file.
 fn project_text<T: Tree>(alloc: Global, tree: &mut T) -> Result<Vec<u8>, Stop>

@@ -1,5 +1,5 @@
-use Rattle.ct_phases.proofs.Steps as lemmas
-use Rattle.ct_phases.proofs.laws.a_turn_takes_a_step.Goals as goal
+use Rattle.ct_meaning_laws.proofs.Steps as lemmas
+use Rattle.ct_meaning_laws.proofs.laws.a_turn_takes_a_step.Goals as goal
 
 pub returns-clause-one : goal.returns-clause-one
 returns-clause-one c = lemmas.turn_takes

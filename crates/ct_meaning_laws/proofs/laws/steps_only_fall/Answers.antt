@@ -1,5 +1,5 @@
-use Rattle.ct_phases.proofs.Steps as lemmas
-use Rattle.ct_phases.proofs.laws.steps_only_fall.Goals as goal
+use Rattle.ct_meaning_laws.proofs.Steps as lemmas
+use Rattle.ct_meaning_laws.proofs.laws.steps_only_fall.Goals as goal
 
 pub returns-clause-functions : goal.returns-clause-functions
 returns-clause-functions c = lemmas.calls_fall

@@ -1,5 +1,5 @@
-use Rattle.ct_phases.proofs.Verdicts as lemmas
-use Rattle.ct_phases.proofs.laws.a_first_failure_stays.Goals as goal
+use Rattle.ct_meaning_laws.proofs.Verdicts as lemmas
+use Rattle.ct_meaning_laws.proofs.laws.a_first_failure_stays.Goals as goal
 
 pub returns-clause-functions : goal.returns-clause-functions
 returns-clause-functions c = lemmas.calls_stay

@@ -10,8 +10,8 @@ use Rattle.ct_meaning.specs.declared.state.State.{State}
 use Rattle.ct_meaning.specs.World.{World, Where}
 use Rattle.ct_meaning.specs.Rules.{failed, failed_test}
 use Rattle.ct_meaning.specs.Meaning.{statement, calls}
-use Rattle.ct_phases.specs.Laws.{SameTest}
-use Rattle.ct_phases.proofs.Goes.{Follows, Tests, statement_goes}
+use Rattle.ct_meaning_laws.specs.Laws.{SameTest}
+use Rattle.ct_meaning_laws.proofs.Goes.{Follows, Tests, statement_goes}
 
 -- tests only begin, and from a state to another in which the same test runs the relation leads
 record During (R : State → State → Type 0) (s t : State) : Type 0 where

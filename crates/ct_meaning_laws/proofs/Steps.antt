@@ -13,9 +13,9 @@ use Rattle.ct_meaning.specs.World.{World, Where}
 use Rattle.ct_meaning.specs.Rules.{stop, failed, check_level, take_step, with_test}
 use Rattle.ct_meaning.specs.Meaning.{Calls, value_of, enter, Evaluates, Executes, then_go, holds, turns, expression, statement, calls}
 use Rattle.ct_meaning.specs.Written.{Test, in_order, phase, phases_state}
-use Rattle.ct_phases.specs.Laws.{SameTest}
-use Rattle.ct_phases.proofs.During.{statements_go}
-use Rattle.ct_phases.proofs.Goes.{Follows, Inner, inner_tests, Goes, calls_go, called_go, expression_goes, statement_goes, in_order_goes, turn_goes}
+use Rattle.ct_meaning_laws.specs.Laws.{SameTest}
+use Rattle.ct_meaning_laws.proofs.During.{statements_go}
+use Rattle.ct_meaning_laws.proofs.Goes.{Follows, Inner, inner_tests, Goes, calls_go, called_go, expression_goes, statement_goes, in_order_goes, turn_goes}
 
 abbrev pub Fewer : State → State → Type 0
 Fewer s t = t.steps ≤ s.steps

@@ -15,7 +15,7 @@ use Rattle.ct_core.specs.declared.trees.CoreExpression.TheVariants.{Constant, Va
 use Rattle.ct_core.specs.declared.trees.CoreStatement.{CoreStatement, fold-roll-CoreStatement}
 use Rattle.ct_core.specs.declared.trees.CoreStatement.TheOpen.{CoreStatement-F}
 use Rattle.ct_core.specs.declared.trees.CoreStatement.TheVariants.{Run, Block, Declare, If, While, Return}
-use Rattle.ct_phases.specs.Names.{expression_names_step, expression_names, all_of, statement_names_step, statement_names}
+use Rattle.ct_meaning_laws.specs.Names.{expression_names_step, expression_names, all_of, statement_names_step, statement_names}
 
 module _ (ok : List ℕ → Bool) where
   pub constant_names : (k : IntKind) (z : ℤ) → expression_names ok (Constant k z) ≡ true

@@ -18,8 +18,8 @@ use Rattle.ct_meaning.specs.Doing.{Outcome, Does, onwards, ◌>>=◌, finally}
 use Rattle.ct_meaning.specs.World.{World, Where, target_of}
 use Rattle.ct_meaning.specs.Rules.{value_from, stored_value, test_check, begun_test_by, stop, failed, given, changed, load, store, initialise, begin_objects, end_objects, take_step, failed_at, can_begin, run_test, run_end, run_phase, run_call, in_test, with_test, without_test, caught}
 use Rattle.ct_meaning.specs.Meaning.{Calls, enter, then_go, turns, expression, statement, calls}
-use Rattle.ct_phases.proofs.Spends.{first_true}
-use Rattle.ct_phases.proofs.Parts.{Holds, enter_holds, expression_holds, statement_holds, body_holds, turn_rest_holds}
+use Rattle.ct_meaning_laws.proofs.Spends.{first_true}
+use Rattle.ct_meaning_laws.proofs.Parts.{Holds, enter_holds, expression_holds, statement_holds, body_holds, turn_rest_holds}
 use Rattle.ct_meaning.specs.Program.{outermost}
 use Rattle.ct_meaning.specs.Written.{in_order}
 

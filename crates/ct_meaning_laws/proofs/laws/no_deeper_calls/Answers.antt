@@ -1,5 +1,5 @@
-use Rattle.ct_phases.proofs.Levels as lemmas
-use Rattle.ct_phases.proofs.laws.no_deeper_calls.Goals as goal
+use Rattle.ct_meaning_laws.proofs.Levels as lemmas
+use Rattle.ct_meaning_laws.proofs.laws.no_deeper_calls.Goals as goal
 
 pub returns-clause-limit : goal.returns-clause-limit
 returns-clause-limit c = λ w call number values h s above. lemmas.no_call w call number values h s above

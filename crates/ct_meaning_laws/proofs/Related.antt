@@ -25,8 +25,8 @@ use Rattle.ct_meaning.specs.Doing.{Outcome, Does, onwards, ◌>>=◌, ◌>>◌, 
 use Rattle.ct_meaning.specs.World.{World, Where, Target, Defined, target_of, variable_at}
 use Rattle.ct_meaning.specs.Rules.{stop, failed, given, used, truth_in, apply_binary, apply_conversion, variable, literal, designator, load, store, initialise, begin_objects, end_objects, check_level, take_step, begun}
 use Rattle.ct_meaning.specs.Meaning.{Calls, value_of, enter, apply_call, Evaluates, used_value, expression_step, expression, Executes, then_go, in_turn, within, holds, turns, declare, return_of, statement_step, statement, places_from, scalar_of_variable, initialise_parameter, initialise_parameters, defined_body, body_of, calls}
-use Rattle.ct_phases.specs.Names.{expression_names_step, expression_names, all_of, statement_names_step, statement_names}
-use Rattle.ct_phases.proofs.Spends.{first_true, second_true}
+use Rattle.ct_meaning_laws.specs.Names.{expression_names_step, expression_names, all_of, statement_names_step, statement_names}
+use Rattle.ct_meaning_laws.proofs.Spends.{first_true, second_true}
 
 -- ---- two outcomes
 

@@ -6,7 +6,7 @@ use Rattle.ct_core.specs.declared.trees.CoreExpression.{CoreExpression, map-Core
 use Rattle.ct_core.specs.declared.trees.CoreExpression.TheOpen.{CoreExpression-F}
 use Rattle.ct_core.specs.declared.trees.CoreStatement.{CoreStatement, map-CoreStatement, fold-roll-CoreStatement, ind-CoreStatement}
 use Rattle.ct_core.specs.declared.trees.CoreStatement.TheOpen.{CoreStatement-F}
-use Rattle.ct_phases.specs.Names.{expression_names_step, expression_names, all_of, statement_names_step, statement_names}
+use Rattle.ct_meaning_laws.specs.Names.{expression_names_step, expression_names, all_of, statement_names_step, statement_names}
 
 abbrev pub any_name : List ℕ → Bool
 any_name name = true

@@ -19,9 +19,9 @@ use Rattle.ct_meaning.specs.Rules.{stop, failed, failed_test, given, used, truth
 use Rattle.ct_meaning.specs.Meaning.{Calls, enter, call_target, call_value, procedure, handed_call, built_in, apply_call, scalar_of_variable, initialise_parameter, row_body, body_of, calls}
 use Rattle.ct_meaning.specs.Program.{left_in}
 use Rattle.ct_meaning.specs.declared.state.Place.{Place}
-use Rattle.ct_phases.proofs.AllNames.{any_name, any_statement}
-use Rattle.ct_phases.proofs.Related.{PlaceIn, Agree, Lower, Keeps, Always, Equal, Each, Entry, Endings, SameCall, SameWhere, Kin, Alike, Shared, Other, done, bind, weaker, calls_keep}
-use Rattle.ct_phases.proofs.Spends.{Spends, given_spends, variable_spends, literal_spends, designator_spends, load_spends, store_spends, initialise_spends, parameter_spends, conversion_spends, binary_spends, begin_spends, assert_spends, run_test_spends, run_end_spends, run_phase_spends, stop_spends}
+use Rattle.ct_meaning_laws.proofs.AllNames.{any_name, any_statement}
+use Rattle.ct_meaning_laws.proofs.Related.{PlaceIn, Agree, Lower, Keeps, Always, Equal, Each, Entry, Endings, SameCall, SameWhere, Kin, Alike, Shared, Other, done, bind, weaker, calls_keep}
+use Rattle.ct_meaning_laws.proofs.Spends.{Spends, given_spends, variable_spends, literal_spends, designator_spends, load_spends, store_spends, initialise_spends, parameter_spends, conversion_spends, binary_spends, begin_spends, assert_spends, run_test_spends, run_end_spends, run_phase_spends, stop_spends}
 
 -- equal states, in which less than m is left
 pub record SameState (budget m : ℕ) (s t : State) : Type 0 where

@@ -13,9 +13,9 @@ use Rattle.ct_meaning.specs.World.{World, Where, Target}
 use Rattle.ct_meaning.specs.Rules.{failed, end_objects, run_call, in_test, caught}
 use Rattle.ct_base.specs.declared.faults.FaultKind.TheVariants.{CallDepth}
 use Rattle.ct_meaning.specs.Meaning.{Calls, enter, expression, statement, body_of}
-use Rattle.ct_phases.specs.Laws.{SameCalls}
-use Rattle.ct_phases.proofs.Parts.{Holds, enter_holds, expression_holds, statement_holds, body_holds}
-use Rattle.ct_phases.proofs.Steps.{no_level}
+use Rattle.ct_meaning_laws.specs.Laws.{SameCalls}
+use Rattle.ct_meaning_laws.proofs.Parts.{Holds, enter_holds, expression_holds, statement_holds, body_holds}
+use Rattle.ct_meaning_laws.proofs.Steps.{no_level}
 
 -- both do the same
 abbrev pub Does_same : (A : Type 0) → Does A → Does A → Type 0

@@ -13,7 +13,7 @@ ghost use Rattle.ct_meaning.specs.Rules.{failed, with_test};
 ghost use Rattle.ct_meaning.specs.Meaning.{Calls, Evaluates, Executes, body_of, calls, enter, expression, holds, statement, then_go, turns};
 ghost use Rattle.ct_meaning.specs.Program.{left_in};
 ghost use Rattle.ct_meaning.specs.Written.{Test, phase, phases_state};
-ghost use Rattle.ct_phases.specs.Laws.{SameCalls, SameTest, verdict_of};
+ghost use Rattle.ct_meaning_laws.specs.Laws.{SameCalls, SameTest, verdict_of};
 
 /// Any two numbers that are above what is left by more than one give calls the same meaning: the
 /// number that ends the recursion is never seen.

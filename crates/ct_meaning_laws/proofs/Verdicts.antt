@@ -15,9 +15,9 @@ use Rattle.ct_meaning.specs.World.{World, Where}
 use Rattle.ct_meaning.specs.Rules.{failed, failed_test}
 use Rattle.ct_meaning.specs.Meaning.{expression, statement, calls}
 use Rattle.ct_meaning.specs.Written.{phase}
-use Rattle.ct_phases.specs.Laws.{SameTest, verdict_of}
-use Rattle.ct_phases.proofs.During.{statements_go}
-use Rattle.ct_phases.proofs.Goes.{Follows, Inner, inner_tests, calls_go, expression_goes, statement_goes, in_order_goes}
+use Rattle.ct_meaning_laws.specs.Laws.{SameTest, verdict_of}
+use Rattle.ct_meaning_laws.proofs.During.{statements_go}
+use Rattle.ct_meaning_laws.proofs.Goes.{Follows, Inner, inner_tests, calls_go, expression_goes, statement_goes, in_order_goes}
 
 abbrev Judgement : Type 0
 Judgement = Verdict × ℕ × List ℕ

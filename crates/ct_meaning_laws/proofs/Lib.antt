@@ -1,0 +1,11 @@
+pub mod AllNames
+pub mod During
+pub mod Goes
+pub mod Levels
+pub mod NameLaws
+pub mod Numbers
+pub mod Parts
+pub mod Related
+pub mod Spends
+pub mod Steps
+pub mod Verdicts

@@ -1,5 +1,0 @@
-use Rattle.ct_phases.proofs.Steps as lemmas
-use Rattle.ct_phases.proofs.laws.a_test_takes_at_most_the_budget.Goals as goal
-
-pub returns-clause-left : goal.returns-clause-left
-returns-clause-left c = lemmas.test_falls

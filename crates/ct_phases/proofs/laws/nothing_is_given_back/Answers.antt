@@ -1,5 +1,0 @@
-use Rattle.ct_phases.proofs.Numbers as numbers
-use Rattle.ct_phases.proofs.laws.nothing_is_given_back.Goals as goal
-
-pub returns : goal.returns
-returns c = numbers.nothing_given_back
