@@ -1,10 +1,11 @@
-//! Laws of the grammar.
+//! Laws of the grammar, and of what is left out of the language.
 
-ghost use Rattle.std.specs.Prelude.{◌≡◌, List, ◌++◌, ◌∷◌};
+ghost use Rattle.std.specs.Prelude.{◌≡◌, ℕ, List, ◌++◌, ◌∷◌};
 ghost use Rattle.ct_base.specs.declared.lexical.Token.{Token};
 ghost use Rattle.ct_syntax.specs.Words.{Word, words};
 ghost use Rattle.ct_syntax.specs.Trees.{Item};
 ghost use Rattle.ct_syntax.specs.Units.{Spells, Unspelled};
+ghost use Rattle.ct_parser.specs.Unsupported.{IsFirst};
 
 /// At most one tree, apart from places, spells a list of words.
 pub fn one_tree()
@@ -22,4 +23,9 @@ pub fn one_unspelled()
     ensures { (before after before' after' : List Token) (token token' : Token) →
         before ++ token ∷ after ≡ before' ++ token' ∷ after' →
         Unspelled before token after → Unspelled before' token' after' → words before ≡ words before' }
+{}
+
+/// Tokens have one first token that is left out, or none, so `unsupported` gives the place of that one.
+pub fn one_first()
+    ensures { (tokens : List Token) (a b : ℕ) → IsFirst tokens a → IsFirst tokens b → a ≡ b }
 {}
