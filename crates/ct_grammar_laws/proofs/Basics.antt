@@ -8,7 +8,7 @@ use Rattle.ct_syntax.specs.declared.words.Mark.{Mark}
 use Rattle.ct_syntax.specs.declared.words.Mark.TheVariants as m
 use Rattle.ct_syntax.specs.Words.{Word, Literal, Sign}
 use Rattle.ct_syntax.specs.Scopes.{Scope}
-use Rattle.ct_syntax.specs.Grammar.{infix_level, level}
+use Rattle.ct_syntax.specs.Grammar.{infix_level, expression_level}
 use Rattle.ct_syntax.specs.Trees as t
 use Rattle.ct_grammar_machine.specs.Algebra.{Tree, trees_built}
 use Rattle.ct_grammar_machine.specs.Frames.{Frame, InCall, InPrefix, InUnary, InSizeof, InCast, InInfix, InElse, InAssign, InComma, InEnumerator, InArray, DeclInit, InItem, InPlace, InAssert, InCase}
@@ -35,7 +35,7 @@ infix_range (i.Number b.Multiply) = (omega arith, omega arith)
 infix_range (i.Number b.Divide) = (omega arith, omega arith)
 infix_range (i.Number b.Remainder) = (omega arith, omega arith)
 
-pub level_range : (x : t.Expression) → (1 ≤ level x) × (level x ≤ 16)
+pub level_range : (x : t.Expression) → (1 ≤ expression_level x) × (expression_level x ≤ 16)
 level_range (t.Comma x y) = (omega arith, omega arith)
 level_range (t.Assign o x y) = (omega arith, omega arith)
 level_range (t.Conditional c x y) = (omega arith, omega arith)

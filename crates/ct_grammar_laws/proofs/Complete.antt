@@ -8,7 +8,7 @@ use Rattle.ct_syntax.specs.declared.expressions.ParameterForm.TheVariants as for
 use Rattle.ct_syntax.specs.Words.{Text, Word, Named, Sign}
 use Rattle.ct_syntax.specs.Scopes.{Scope, with_name, name_of, after_specs, after_members, after_enumerators, after_declarator}
 use Rattle.ct_syntax.specs.TypeWords.{form_type}
-use Rattle.ct_syntax.specs.Grammar.{infix_level, level, fits_form, has_members, has_enumerators, has_declarators, has_parameters, IsExpression, AreArguments, IsOptional, AreSpecs, AreMembers, AreEnumerators, AreDeclarators, IsDeclarator, AreParameters}
+use Rattle.ct_syntax.specs.Grammar.{infix_level, expression_level, fits_form, has_members, has_enumerators, has_declarators, has_parameters, IsExpression, AreArguments, IsOptional, AreSpecs, AreMembers, AreEnumerators, AreDeclarators, IsDeclarator, AreParameters}
 use Rattle.ct_syntax.specs.Spelling.{spell, spell_list, spell_more, spell_optional, spell_comma, spell_form, spell_specs, spell_members, spell_declarators, spell_more_declarators, spell_enumerators, spell_more_enumerators, spell_value, spell_declarator, spell_parameters, spell_more_parameters}
 use Rattle.ct_syntax.specs.Trees as t
 use Rattle.ct_grammar_machine.specs.Algebra.{Tree, trees_built, expressions_then, specs_then, members_then, enumerators_then, declarators_then, parameters_then}
@@ -65,8 +65,8 @@ declarators_plain : (ds : t.Declarators) (rest : List Word) → has_declarators 
 declarators_plain t.no_declarator rest h = absurd cc
 declarators_plain (t.declarator d ds) rest h = declarator_plain d _ (more_declarators_plain ds rest)
 
-assign_acts : (scope : Scope) (o : AssignOp) (s : Stack Tree) (x : t.Expression) (ws : List Word) → stack_needs s ≤ 2 → 15 ≤ level x → go ws (act trees_built scope (m.Assign o) s x) ≡ R ws scope (InAssign o x ∷ s) Want
-assign_acts scope o s x ws n h = rw (le-ltb 2 (stack_needs s) n, le-ltb (level x) 15 h) refl
+assign_acts : (scope : Scope) (o : AssignOp) (s : Stack Tree) (x : t.Expression) (ws : List Word) → stack_needs s ≤ 2 → 15 ≤ expression_level x → go ws (act trees_built scope (m.Assign o) s x) ≡ R ws scope (InAssign o x ∷ s) Want
+assign_acts scope o s x ws n h = rw (le-ltb 2 (stack_needs s) n, le-ltb (expression_level x) 15 h) refl
 
 -- ---- enumerators
 
@@ -116,7 +116,7 @@ list_read (t.parameter ss e ps) scope s k d f rest fits wf h =
 -- ---- the induction
 
 mutual
-  pub reads : (x : t.Expression) (scope : Scope) (s : Stack Tree) (rest : List Word) → IsExpression scope x → stack_needs s ≤ level x → next_pull rest ≤ level x → R (spell x rest) scope s Want ≡ R rest scope s (Have x)
+  pub reads : (x : t.Expression) (scope : Scope) (s : Stack Tree) (rest : List Word) → IsExpression scope x → stack_needs s ≤ expression_level x → next_pull rest ≤ expression_level x → R (spell x rest) scope s Want ≡ R rest scope s (Have x)
   reads (t.Name u) scope s rest wf n p = ap (λ v. go rest (named trees_built v scope s u)) wf
   reads (t.Number u) scope s rest wf n p = refl
   reads (t.Character u) scope s rest wf n p = refl

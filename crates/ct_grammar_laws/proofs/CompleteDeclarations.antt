@@ -8,7 +8,7 @@ use Rattle.ct_syntax.specs.declared.words.AssignOp.TheVariants as a
 use Rattle.ct_syntax.specs.Words.{Text, Word, Named, Numbered, Quote, Literal, Sign, Key, Stray}
 use Rattle.ct_syntax.specs.Scopes.{Scope, after_specs, after_declarator, after_init_declarators, after_declaration}
 use Rattle.ct_syntax.specs.TypeWords.{form_type}
-use Rattle.ct_syntax.specs.Grammar.{level, has_items, AreSpecs, IsDeclarator, IsDesignator, IsInitialiser, AreItems, IsStart, AreInitDeclarators, IsDeclaration}
+use Rattle.ct_syntax.specs.Grammar.{expression_level, has_items, AreSpecs, IsDeclarator, IsDesignator, IsInitialiser, AreItems, IsOptionalInitialiser, AreInitDeclarators, IsDeclaration}
 use Rattle.ct_syntax.specs.Spelling.{spell, spell_comma, spell_specs, spell_declarator, spell_designator, spell_initialiser, spell_items, spell_more_items, spell_start, spell_init_declarators, spell_more_init_declarators, spell_declaration}
 use Rattle.ct_syntax.specs.Trees as t
 use Rattle.ct_grammar_machine.specs.Algebra.{Tree, trees_built, inits_then, designator_of, Aimed, AtNext, AtMember, AtIndex}
@@ -146,7 +146,7 @@ mutual
       ∙ reads x sc s (Sign k ∷ rest) wf.1 (omega (arith, init_needs s h, wf.0)) (mark_end k x e)
       ∙ value_done sc s k x rest h e
     where
-      mark_end : (j : Mark) (y : t.Expression) → ends_init j ≡ true → mark_pull j ≤ level y
+      mark_end : (j : Mark) (y : t.Expression) → ends_init j ≡ true → mark_pull j ≤ expression_level y
       mark_end m.Comma y e = (level_range y).0
       mark_end m.Semicolon y e = (level_range y).0
       mark_end m.CloseBrace y e = (level_range y).0
@@ -265,7 +265,7 @@ ends_start m.Comma = true
 ends_start m.Semicolon = true
 ends_start _ = false
 
-start_read : (d : t.InitDeclarator) (v : Option t.Initialiser) (first : Bool) (sc : Scope) (s : Stack Tree) (ss : t.Specs) (before : List t.InitDeclarator) (k : Mark) (rest : List Word) → IsStart (after_declarator sc ss d.declarator) v → ends_start k ≡ true → R (spell_start v (Sign k ∷ rest)) sc (DeclDeclarator first ss before ∷ s) (HaveDeclarator Ordinary d.declarator) ≡ go rest (start_out (after_declarator sc ss d.declarator) k s ss before (record { declarator = d.declarator; start = v }))
+start_read : (d : t.InitDeclarator) (v : Option t.Initialiser) (first : Bool) (sc : Scope) (s : Stack Tree) (ss : t.Specs) (before : List t.InitDeclarator) (k : Mark) (rest : List Word) → IsOptionalInitialiser (after_declarator sc ss d.declarator) v → ends_start k ≡ true → R (spell_start v (Sign k ∷ rest)) sc (DeclDeclarator first ss before ∷ s) (HaveDeclarator Ordinary d.declarator) ≡ go rest (start_out (after_declarator sc ss d.declarator) k s ss before (record { declarator = d.declarator; start = v }))
 start_read d None first sc s ss before m.Comma rest wf e = refl
 start_read d None first sc s ss before m.Semicolon rest wf e = refl
 start_read d (Some v) first sc s ss before m.Comma rest wf e = reads_init v (after_declarator sc ss d.declarator) (DeclInit ss before d.declarator ∷ s) m.Comma rest wf refl refl

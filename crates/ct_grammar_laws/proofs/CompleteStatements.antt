@@ -6,7 +6,7 @@ use Rattle.ct_syntax.specs.declared.words.Keyword.TheVariants as w
 use Rattle.ct_syntax.specs.Words.{Word, Named, Sign, Key}
 use Rattle.ct_syntax.specs.Scopes.{Scope, after_specs, after_declarator, after_declaration, after_for_start, after_item, after_unit, inside_definition}
 use Rattle.ct_syntax.specs.TypeWords.{form_type}
-use Rattle.ct_syntax.specs.Grammar.{level, is_if, is_open, is_open_other, is_followed, IsExpression, IsMaybe, IsForStart, IsDeclaration, IsStatement, AreBranches, IsOther, IsBody, IsItem, IsUnit}
+use Rattle.ct_syntax.specs.Grammar.{expression_level, is_if, takes_else, other_takes_else, is_followed, IsExpression, IsMaybe, IsForStart, IsDeclaration, IsStatement, AreBranches, IsOther, IsBody, IsItem, IsTranslationUnit}
 use Rattle.ct_syntax.specs.Spelling.{spell, spell_specs, spell_declarator, spell_maybe, spell_for_start, spell_declaration, spell_statement, spell_more_branches, spell_other, spell_body, spell_item, spell_unit}
 use Rattle.ct_syntax.specs.Trees as t
 use Rattle.ct_grammar_machine.specs.Algebra.{Tree, trees_built, branches_then, body_then}
@@ -271,7 +271,7 @@ continues (OfBlock outer) c sc s u (v ∷ ws) n h = ap (λ z. go ws (done trees_
 continues (OfSwitch outer x) c sc s u (v ∷ ws) n h = ap (λ z. go ws (done trees_built z sc (InSwitch outer x c ∷ s) u v)) h
 continues (OfFunction outer ss d) c sc s u (v ∷ ws) n h = ap (λ z. go ws (done trees_built z sc (InFunction outer ss d c ∷ s) u v)) h
 
-case_in : (k : Braces) (c : t.Body) (sc : Scope) (s : Stack Tree) (x : t.Expression) (rest : List Word) → has_labels k ≡ true → 3 ≤ level x → IsExpression sc x → R (Key w.Case ∷ spell x (Sign m.Colon ∷ rest)) sc (body_frame k c ∷ s) Begin ≡ R rest sc (body_frame k (body_then c (t.case_label x t.no_part)) ∷ s) Begin
+case_in : (k : Braces) (c : t.Body) (sc : Scope) (s : Stack Tree) (x : t.Expression) (rest : List Word) → has_labels k ≡ true → 3 ≤ expression_level x → IsExpression sc x → R (Key w.Case ∷ spell x (Sign m.Colon ∷ rest)) sc (body_frame k c ∷ s) Begin ≡ R rest sc (body_frame k (body_then c (t.case_label x t.no_part)) ∷ s) Begin
 case_in (OfBlock outer) c sc s x rest h le wf = absurd cc
 case_in (OfFunction outer ss d) c sc s x rest h le wf = absurd cc
 case_in (OfSwitch outer y) c sc s x rest h le wf =
@@ -343,14 +343,14 @@ and_one false h = refl
 and_one true h = absurd cc
 
 -- whether an `else` stands behind a branch, in the text
-followed_else : (bs : t.Branches) (o : t.Other) (s : t.Statement) (rest : List Word) → (is_followed bs o && is_open s) ≡ false → (is_open_other o && begins_else rest) ≡ false → (is_open s && begins_else (spell_more_branches bs (spell_other o rest))) ≡ false
-followed_else t.no_branch t.no_else s rest h e = and_some (is_open s) (begins_else rest) e
-followed_else t.no_branch (t.else_do u) s rest h e = and_one (is_open s) h
-followed_else (t.branch c u bs) o s rest h e = and_one (is_open s) h
+followed_else : (bs : t.Branches) (o : t.Other) (s : t.Statement) (rest : List Word) → (is_followed bs o && takes_else s) ≡ false → (other_takes_else o && begins_else rest) ≡ false → (takes_else s && begins_else (spell_more_branches bs (spell_other o rest))) ≡ false
+followed_else t.no_branch t.no_else s rest h e = and_some (takes_else s) (begins_else rest) e
+followed_else t.no_branch (t.else_do u) s rest h e = and_one (takes_else s) h
+followed_else (t.branch c u bs) o s rest h e = and_one (takes_else s) h
 
 mutual
   -- a statement, whose first word is read as that of one
-  pub reads_statement : (u : t.Statement) (sc : Scope) (s : Stack Tree) (rest : List Word) → IsStatement sc u → is_more rest ≡ true → (is_open u && begins_else rest) ≡ false → S (spell_statement u rest) sc s ≡ R rest sc s (Done u)
+  pub reads_statement : (u : t.Statement) (sc : Scope) (s : Stack Tree) (rest : List Word) → IsStatement sc u → is_more rest ≡ true → (takes_else u && begins_else rest) ≡ false → S (spell_statement u rest) sc s ≡ R rest sc s (Done u)
   reads_statement (t.Block c) sc s rest wf n e = reads_parts c (OfBlock sc) sc s t.no_part rest wf
   reads_statement (t.Run None) sc s rest wf n e = refl
   reads_statement (t.Run (Some x)) sc s rest wf n e =
@@ -374,7 +374,7 @@ mutual
   reads_statement (t.Do u c) sc s rest wf n e =
       let X = Key w.While ∷ Sign m.Open ∷ spell c (Sign m.Close ∷ Sign m.Semicolon ∷ rest) in
       begins sc (InDo ∷ s) (spell_statement u X) refl (statement_begins u sc X wf.0)
-      ∙ reads_statement u sc (InDo ∷ s) X wf.0 refl (and_false (is_open u))
+      ∙ reads_statement u sc (InDo ∷ s) X wf.0 refl (and_false (takes_else u))
       ∙ reads c sc (InDoTest u ∷ s) (Sign m.Close ∷ Sign m.Semicolon ∷ rest) wf.1 (level_range c).0 (level_range c).0
       ∙ acts sc m.Close (InDoTest u ∷ s) c (Sign m.Semicolon ∷ rest) (omega arith)
   reads_statement (t.For f c d u) sc s rest wf n e =
@@ -397,7 +397,7 @@ mutual
       ∙ reads x sc (InReturn ∷ s) (Sign m.Semicolon ∷ rest) wf (level_range x).0 (level_range x).0
       ∙ acts sc m.Semicolon (InReturn ∷ s) x rest (omega arith)
 
-  pub reads_ladder : (bs : t.Branches) (sc : Scope) (s : Stack Tree) (before : t.Branches) (c : t.Expression) (u : t.Statement) (o : t.Other) (rest : List Word) → AreBranches sc bs o → is_more rest ≡ true → (is_open_other o && begins_else rest) ≡ false → ((before : t.Branches) (d : t.Expression) (v : t.Statement) → R (spell_other o rest) sc (InBranch before d ∷ s) (Done v) ≡ R rest sc s (Done (t.If (branches_then before (t.branch d v t.no_branch)) o))) → R (spell_more_branches bs (spell_other o rest)) sc (InBranch before c ∷ s) (Done u) ≡ R rest sc s (Done (t.If (branches_then before (t.branch c u bs)) o))
+  pub reads_ladder : (bs : t.Branches) (sc : Scope) (s : Stack Tree) (before : t.Branches) (c : t.Expression) (u : t.Statement) (o : t.Other) (rest : List Word) → AreBranches sc bs o → is_more rest ≡ true → (other_takes_else o && begins_else rest) ≡ false → ((before : t.Branches) (d : t.Expression) (v : t.Statement) → R (spell_other o rest) sc (InBranch before d ∷ s) (Done v) ≡ R rest sc s (Done (t.If (branches_then before (t.branch d v t.no_branch)) o))) → R (spell_more_branches bs (spell_other o rest)) sc (InBranch before c ∷ s) (Done u) ≡ R rest sc s (Done (t.If (branches_then before (t.branch c u bs)) o))
   reads_ladder t.no_branch sc s before c u o rest wf n e h = h before c u
   reads_ladder (t.branch d v bs) sc s before c u o rest wf n e h =
       let X = spell_more_branches bs (spell_other o rest) in
@@ -409,7 +409,7 @@ mutual
       ∙ reads_ladder bs sc s now d v o rest wf.3 n e h
       ∙ ap (λ z. R rest sc s (Done (t.If z o))) (branches-last before c u (t.branch d v bs))
 
-  pub reads_other : (o : t.Other) (sc : Scope) (s : Stack Tree) (before : t.Branches) (c : t.Expression) (u : t.Statement) (rest : List Word) → IsOther sc o → is_more rest ≡ true → (is_open_other o && begins_else rest) ≡ false → R (spell_other o rest) sc (InBranch before c ∷ s) (Done u) ≡ R rest sc s (Done (t.If (branches_then before (t.branch c u t.no_branch)) o))
+  pub reads_other : (o : t.Other) (sc : Scope) (s : Stack Tree) (before : t.Branches) (c : t.Expression) (u : t.Statement) (rest : List Word) → IsOther sc o → is_more rest ≡ true → (other_takes_else o && begins_else rest) ≡ false → R (spell_other o rest) sc (InBranch before c ∷ s) (Done u) ≡ R rest sc s (Done (t.If (branches_then before (t.branch c u t.no_branch)) o))
   reads_other t.no_else sc s before c u rest wf n e = done_branch sc s before c u rest n e
   reads_other (t.else_do v) sc s before c u rest wf n e =
       let now = branches_then before (t.branch c u t.no_branch) in
@@ -436,7 +436,7 @@ mutual
       let X = spell_body c (Sign m.CloseBrace ∷ rest) in
       let behind = body_no_else (has_labels k) c sc rest wf.1 in
       begins sc (body_frame k before ∷ s) (spell_statement u X) (body_states k before s) (statement_begins u sc X wf.0)
-      ∙ reads_statement u sc (body_frame k before ∷ s) X wf.0 behind.1 (and_some (is_open u) (begins_else X) behind.0)
+      ∙ reads_statement u sc (body_frame k before ∷ s) X wf.0 behind.1 (and_some (takes_else u) (begins_else X) behind.0)
       ∙ continues k before sc s u X behind.1 behind.0
       ∙ reads_parts c k sc s (body_then before (t.stated u t.no_part)) rest wf.1
       ∙ ap (λ z. R (Sign m.CloseBrace ∷ rest) (after_body sc c) (body_frame k z ∷ s) Begin) (body-assoc before (t.stated u t.no_part) c)
@@ -466,7 +466,7 @@ append_one : (is : List t.Item) (x : t.Item) (js : List t.Item) → (is ++ x ∷
 append_one [] x js = refl
 append_one (y ∷ is) x js = ap (λ us. y ∷ us) (append_one is x js)
 
-pub reads_unit : (is : List t.Item) (sc : Scope) (s : Stack Tree) (before : List t.Item) (rest : List Word) → IsUnit sc is → R (spell_unit is rest) sc (InUnit before ∷ s) Begin ≡ R rest (after_unit sc is) (InUnit (before ++ is) ∷ s) Begin
+pub reads_unit : (is : List t.Item) (sc : Scope) (s : Stack Tree) (before : List t.Item) (rest : List Word) → IsTranslationUnit sc is → R (spell_unit is rest) sc (InUnit before ∷ s) Begin ≡ R rest (after_unit sc is) (InUnit (before ++ is) ∷ s) Begin
 reads_unit [] sc s before rest wf = ap (λ js. R rest sc (InUnit js ∷ s) Begin) (sym (append_none before))
 reads_unit (x ∷ is) sc s before rest wf =
     reads_item x sc s before (spell_unit is rest) wf.0

@@ -4,7 +4,7 @@ use Rattle.ct_syntax.specs.declared.words.Mark.TheVariants as m
 use Rattle.ct_syntax.specs.declared.words.Keyword.TheVariants as w
 use Rattle.ct_syntax.specs.Words.{Word, Sign, Key}
 use Rattle.ct_syntax.specs.Scopes.{Scope, after_declarator, after_init_declarators, after_declaration, after_item, after_unit}
-use Rattle.ct_syntax.specs.Grammar.{has_items, has_branches, is_open, is_followed, IsExpression, IsDeclarator, IsDesignator, IsInitialiser, AreItems, IsStart, AreInitDeclarators, IsStatement, AreBranches, IsBody, IsItem, IsUnit}
+use Rattle.ct_syntax.specs.Grammar.{has_items, has_branches, takes_else, is_followed, IsExpression, IsDeclarator, IsDesignator, IsInitialiser, AreItems, IsOptionalInitialiser, AreInitDeclarators, IsStatement, AreBranches, IsBody, IsItem, IsTranslationUnit}
 use Rattle.ct_syntax.specs.Spelling.{spell, spell_declarator, spell_designator, spell_initialiser, spell_items, spell_more_items, spell_start, spell_init_declarators, spell_more_init_declarators, spell_declaration, spell_statement, spell_branches, spell_more_branches, spell_body, spell_item, spell_unit}
 use Rattle.ct_syntax.specs.Trees as t
 use Rattle.ct_grammar_machine.specs.Algebra.{inits_then, branches_then, body_then}
@@ -66,7 +66,7 @@ pub after_inits-last : (sc : Scope) (ss : t.Specs) (ds : List t.InitDeclarator) 
 after_inits-last sc ss [] d = refl
 after_inits-last sc ss (e ∷ ds) d = after_inits-last (after_declarator sc ss e.declarator) ss ds d
 
-pub AreInits-last : (sc : Scope) (ss : t.Specs) (ds : List t.InitDeclarator) (d : t.InitDeclarator) → AreInitDeclarators sc ss ds → IsDeclarator false (after_init_declarators sc ss ds) d.declarator → IsStart (after_declarator (after_init_declarators sc ss ds) ss d.declarator) d.start → AreInitDeclarators sc ss (ds ++ d ∷ [])
+pub AreInits-last : (sc : Scope) (ss : t.Specs) (ds : List t.InitDeclarator) (d : t.InitDeclarator) → AreInitDeclarators sc ss ds → IsDeclarator false (after_init_declarators sc ss ds) d.declarator → IsOptionalInitialiser (after_declarator (after_init_declarators sc ss ds) ss d.declarator) d.start → AreInitDeclarators sc ss (ds ++ d ∷ [])
 AreInits-last sc ss [] d all h v = (h, v, tt)
 AreInits-last sc ss (e ∷ ds) d all h v = (all.0, all.1, AreInits-last (after_declarator sc ss e.declarator) ss ds d all.2 h v)
 
@@ -94,9 +94,9 @@ branches_else (t.branch d v bs) ws h = ap (λ us. Key w.If ∷ Sign m.Open ∷ s
 
 abbrev pub AreLed : Scope → t.Branches → Type 0
 AreLed sc t.no_branch = Unit {0}
-AreLed sc (t.branch c u bs) = IsExpression sc c × (is_open u ≡ false) × IsStatement sc u × AreLed sc bs
+AreLed sc (t.branch c u bs) = IsExpression sc c × (takes_else u ≡ false) × IsStatement sc u × AreLed sc bs
 
-pub AreLed-last : (sc : Scope) (bs : t.Branches) (c : t.Expression) (u : t.Statement) → AreLed sc bs → IsExpression sc c → is_open u ≡ false → IsStatement sc u → AreLed sc (branches_then bs (t.branch c u t.no_branch))
+pub AreLed-last : (sc : Scope) (bs : t.Branches) (c : t.Expression) (u : t.Statement) → AreLed sc bs → IsExpression sc c → takes_else u ≡ false → IsStatement sc u → AreLed sc (branches_then bs (t.branch c u t.no_branch))
 AreLed-last sc t.no_branch c u all x o h = (x, o, h, tt)
 AreLed-last sc (t.branch d v bs) c u all x o h = (all.0, all.1, all.2, AreLed-last sc bs c u all.3 x o h)
 
@@ -111,12 +111,12 @@ and_some z true h = absurd cc
 
 pub led_else : (sc : Scope) (bs : t.Branches) (v : t.Statement) → AreLed sc bs → AreBranches sc bs (t.else_do v)
 led_else sc t.no_branch v all = tt
-led_else sc (t.branch c u bs) v all = (all.0, and_some (is_followed bs (t.else_do v)) (is_open u) all.1, all.2, led_else sc bs v all.3)
+led_else sc (t.branch c u bs) v all = (all.0, and_some (is_followed bs (t.else_do v)) (takes_else u) all.1, all.2, led_else sc bs v all.3)
 
 -- the last branch, which no `else` follows
 pub led_last : (sc : Scope) (bs : t.Branches) (c : t.Expression) (u : t.Statement) → AreLed sc bs → IsExpression sc c → IsStatement sc u → AreBranches sc (branches_then bs (t.branch c u t.no_branch)) t.no_else
 led_last sc t.no_branch c u all x h = (x, refl, h, tt)
-led_last sc (t.branch d v bs) c u all x h = (all.0, and_some (is_followed (branches_then bs (t.branch c u t.no_branch)) t.no_else) (is_open v) all.1, all.2, led_last sc bs c u all.3 x h)
+led_last sc (t.branch d v bs) c u all x h = (all.0, and_some (is_followed (branches_then bs (t.branch c u t.no_branch)) t.no_else) (takes_else v) all.1, all.2, led_last sc bs c u all.3 x h)
 
 -- ---- parts of braces
 
@@ -151,6 +151,6 @@ pub after_unit-last : (sc : Scope) (is : List t.Item) (x : t.Item) → after_uni
 after_unit-last sc [] x = refl
 after_unit-last sc (y ∷ is) x = after_unit-last (after_item sc y) is x
 
-pub IsUnit-last : (sc : Scope) (is : List t.Item) (x : t.Item) → IsUnit sc is → IsItem (after_unit sc is) x → IsUnit sc (is ++ x ∷ [])
-IsUnit-last sc [] x all h = (h, tt)
-IsUnit-last sc (y ∷ is) x all h = (all.0, IsUnit-last (after_item sc y) is x all.1 h)
+pub IsTranslationUnit-last : (sc : Scope) (is : List t.Item) (x : t.Item) → IsTranslationUnit sc is → IsItem (after_unit sc is) x → IsTranslationUnit sc (is ++ x ∷ [])
+IsTranslationUnit-last sc [] x all h = (h, tt)
+IsTranslationUnit-last sc (y ∷ is) x all h = (all.0, IsTranslationUnit-last (after_item sc y) is x all.1 h)

@@ -12,7 +12,7 @@ use Rattle.ct_grammar_machine.specs.Algebra.{Tree, trees_built, body_then, desig
 use Rattle.ct_grammar_machine.specs.Frames.{Ordinary, DeclDeclarator, DeclInit, InItem, InBlock, InSwitch, InFunction, InUnit, InForInit, WantDeclarator, Stack, State}
 use Rattle.ct_grammar_machine.specs.Steps.{declaration_done, definition_opens, init_done}
 use Rattle.ct_grammar_laws.proofs.CompleteStatements.{after_body}
-use Rattle.ct_grammar_laws.proofs.Leads.{items_lead, lead_items-last, AreItems-last, has_items-last, lead_inits, inits_lead, lead_inits-last, after_inits-last, AreInits-last, body_spelled, after_body-then, IsBody-then, unit_spelled, after_unit-last, IsUnit-last}
+use Rattle.ct_grammar_laws.proofs.Leads.{items_lead, lead_items-last, AreItems-last, has_items-last, lead_inits, inits_lead, lead_inits-last, after_inits-last, AreInits-last, body_spelled, after_body-then, IsBody-then, unit_spelled, after_unit-last, IsTranslationUnit-last}
 use Rattle.ct_grammar_laws.proofs.Unwinding.{unwind, mode_words, IsStack, IsAt}
 
 module _ (start : Scope) where
@@ -34,7 +34,7 @@ module _ (start : Scope) where
 
   pub declaration_goes : (sc base : Scope) (s : Stack Tree) (d : t.Declaration) → IsDeclaration base d → sc ≡ after_declaration base d → IsStack start s base → Goes (λ ws. unwind s (spell_declaration d ws)) (declaration_done trees_built sc s d)
   declaration_goes sc base (InUnit is ∷ s) d wf e st = (
-    (refl, (st.0, IsUnit-last st.0 is (t.Outside d) st.1 (subst (λ z. IsDeclaration z d) st.2 wf), e ∙ ap (λ z. after_declaration z d) st.2 ∙ sym (after_unit-last st.0 is (t.Outside d)), st.3)),
+    (refl, (st.0, IsTranslationUnit-last st.0 is (t.Outside d) st.1 (subst (λ z. IsDeclaration z d) st.2 wf), e ∙ ap (λ z. after_declaration z d) st.2 ∙ sym (after_unit-last st.0 is (t.Outside d)), st.3)),
     λ ws. ap (unwind s) (unit_spelled is (t.Outside d) ws),
   )
   declaration_goes sc base (InBlock outer c ∷ s) d wf e st = (

@@ -9,7 +9,7 @@ use Rattle.ct_syntax.specs.declared.words.Keyword.{Keyword}
 use Rattle.ct_syntax.specs.declared.words.Keyword.TheVariants as w
 use Rattle.ct_syntax.specs.Words.{Text, Word, Named, Literal, Sign, Key}
 use Rattle.ct_syntax.specs.Scopes.{Scope, after_specs, after_declarator, inside_definition}
-use Rattle.ct_syntax.specs.Grammar.{begins_specs, is_if, is_open, has_items, IsExpression, IsDesignator, IsInitialiser, IsMaybe, IsStatement, IsItem}
+use Rattle.ct_syntax.specs.Grammar.{begins_specs, is_if, takes_else, has_items, IsExpression, IsDesignator, IsInitialiser, IsMaybe, IsStatement, IsItem}
 use Rattle.ct_syntax.specs.Spelling.{spell_initialiser, spell_items, spell_statement, spell_branches}
 use Rattle.ct_syntax.specs.Trees as t
 use Rattle.ct_grammar_machine.specs.Algebra.{Tree, trees_built, branches_then, body_then, designator_of, Aimed, AtNext, AtMember, AtIndex}
@@ -17,7 +17,7 @@ use Rattle.ct_grammar_machine.specs.Frames.{DeclSpecs, InBraces, InItem, InBlock
 use Rattle.ct_grammar_machine.specs.Frames.{Mode, Want, Have, Texts, First, Dotted, Specs, Tagging, Tagged, NextMember, FirstEnumerator, NextEnumerator, Enumerated, WantDeclarator, Qualifying, Opened, HaveDeclarator, Sizing, Listing, NextParameter, AfterEllipsis, Stack, State}
 use Rattle.ct_grammar_machine.specs.Frames.{WantInit, HaveInit, FirstItem, NextItem, Pointed, Placed, Opening, AssertText, AssertClose, AssertEnd, Begin, Done, Ending, AfterElse, Returning, Switching, DefaultColon, OpenFor, ForInit, ForCondition, ForStep}
 use Rattle.ct_grammar_machine.specs.Steps.{is_label, is_else, begin, specs_step, want_init, have_init, item, close_items, item_or_end, pointed, placed, assert_text, assert_close, assert_end, aim_frame, opening, statement_mark, statement_key, statement, close_body, label, block_part, file_part, begin_part, ended, on_else, do_test, next_in, done, ending, after_else, returning, switching, default_done, default_colon, open_for, no_start, for_starting, no_test, for_testing, no_after, for_aftering, step, then_run, run}
-use Rattle.ct_grammar_laws.proofs.Leads.{lead_items, items_comma, branches_lead, branches_else, AreLed-last, has_branches-last, led_else, led_last, body_spelled, unit_spelled, after_unit-last, IsUnit-last}
+use Rattle.ct_grammar_laws.proofs.Leads.{lead_items, items_comma, branches_lead, branches_else, AreLed-last, has_branches-last, led_else, led_last, body_spelled, unit_spelled, after_unit-last, IsTranslationUnit-last}
 use Rattle.ct_grammar_laws.proofs.Unwinding.{frame_words, aim_words, ending_words, unwind, mode_words, NoItems, HasItems, top_is_else, IsPlaced, IsStack, IsAt}
 use Rattle.ct_grammar_laws.proofs.SoundPlaces.{Goes, Goes-from, body_more, body_scope, declaration_goes, init_goes}
 use Rattle.ct_grammar_laws.proofs.SoundTypes.{want_goes, qualify_goes, specs_goes, begin_specs, tagging_goes, tagged_goes, next_member_goes, first_enumerator_goes, next_enumerator_goes, enumerated_goes, have_goes, listing_goes, opened_goes, next_parameter_goes, after_ellipsis_goes}
@@ -142,7 +142,7 @@ module _ (start : Scope) where
   close_goes sc (InFunction outer ss d c ∷ InUnit is ∷ s) st =
       let here = st.7.2 in
       let whole : IsItem st.0 (t.Definition ss d c) = (st.1, st.2, st.3, st.5) in (
-        (refl, (st.7.0, IsUnit-last st.7.0 is (t.Definition ss d c) st.7.1 (subst (λ z. IsItem z (t.Definition ss d c)) here whole), st.4 ∙ ap (λ z. after_declarator (after_specs z ss) ss d) here ∙ sym (after_unit-last st.7.0 is (t.Definition ss d c)), st.7.3)),
+        (refl, (st.7.0, IsTranslationUnit-last st.7.0 is (t.Definition ss d c) st.7.1 (subst (λ z. IsItem z (t.Definition ss d c)) here whole), st.4 ∙ ap (λ z. after_declarator (after_specs z ss) ss d) here ∙ sym (after_unit-last st.7.0 is (t.Definition ss d c)), st.7.3)),
         λ ws. ap (unwind s) (unit_spelled is (t.Definition ss d c) ws),
       )
   close_goes sc _ st = tt
@@ -165,7 +165,7 @@ module _ (start : Scope) where
 
   file_part_goes : (sc : Scope) (is : List t.Item) (s : Stack Tree) (v : Word) → IsStack start (InUnit is ∷ s) sc → Goes start (λ ws. unwind (InUnit is ∷ s) (v ∷ ws)) (file_part trees_built sc is s v)
   file_part_goes sc is s (Sign m.Semicolon) st =
-      ((refl, (st.0, IsUnit-last st.0 is t.Lone st.1 tt, st.2 ∙ sym (after_unit-last st.0 is t.Lone), st.3)), λ ws. ap (unwind s) (unit_spelled is t.Lone ws))
+      ((refl, (st.0, IsTranslationUnit-last st.0 is t.Lone st.1 tt, st.2 ∙ sym (after_unit-last st.0 is t.Lone), st.3)), λ ws. ap (unwind s) (unit_spelled is t.Lone ws))
   file_part_goes sc is s (Key w.StaticAssert) st = (st, λ ws. refl)
   file_part_goes sc is s v st = begin_specs start sc (DeclSpecs ∷ InUnit is ∷ s) v st
 
@@ -203,7 +203,7 @@ module _ (start : Scope) where
   ends [] sc u st wf h = record { stack = st; is_statement = wf; spelled = λ ws. refl }
   ends (_ ∷ s) sc u st wf h = record { stack = st; is_statement = wf; spelled = λ ws. refl }
 
-  else_goes : (s : Stack Tree) (sc : Scope) (u : t.Statement) → IsStack start s sc → IsStatement sc u → is_open u ≡ false → (is_if u && top_is_else s) ≡ false → Goes start (λ ws. unwind s (spell_statement u (Key w.Else ∷ ws))) (on_else trees_built sc s u)
+  else_goes : (s : Stack Tree) (sc : Scope) (u : t.Statement) → IsStack start s sc → IsStatement sc u → takes_else u ≡ false → (is_if u && top_is_else s) ≡ false → Goes start (λ ws. unwind s (spell_statement u (Key w.Else ∷ ws))) (on_else trees_built sc s u)
   else_goes (InBranch bs c ∷ s) sc u st wf o h =
       ((has_branches-last bs c u, AreLed-last sc bs c u st.0 st.1 o wf, st.2, st.3), λ ws. ap (unwind s) (branches_lead bs c u (Key w.Else ∷ ws)))
   else_goes (InElseBody bs ∷ s) sc u st wf o h = else_goes s sc (t.If bs (t.else_do u)) st.3 (st.0, led_else sc bs u st.1, (and_true (is_if u) h, wf)) o st.2

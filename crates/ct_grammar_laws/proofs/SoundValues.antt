@@ -11,7 +11,7 @@ use Rattle.ct_syntax.specs.declared.words.Keyword.{Keyword}
 use Rattle.ct_syntax.specs.declared.words.Keyword.TheVariants as w
 use Rattle.ct_syntax.specs.Words.{Text, Word, Named, Numbered, Quote, Literal, Sign, Key, Stray}
 use Rattle.ct_syntax.specs.Scopes.{Scope, with_name, after_specs}
-use Rattle.ct_syntax.specs.Grammar.{infix_level, level, IsExpression}
+use Rattle.ct_syntax.specs.Grammar.{infix_level, expression_level, IsExpression}
 use Rattle.ct_syntax.specs.Spelling.{spell, spell_texts, spell_tag, spell_specs, spell_declarator}
 use Rattle.ct_syntax.specs.Trees as t
 use Rattle.ct_grammar_machine.specs.Algebra.{Tree, trees_built, enumerators_then}
@@ -73,12 +73,12 @@ module _ (start : Scope) where
 
   record Plugged (sc : Scope) (f : Frame Tree) (s : Stack Tree) (x : t.Expression) : Type 0 where
     well_formed : IsExpression sc (plug trees_built f x)
-    high : level (plug trees_built f x) ≡ holds f
+    high : expression_level (plug trees_built f x) ≡ holds f
     rooms : stack_needs s ≤ holds f
     stack : IsStack start s sc
     spelled : (ws : List Word) → spell (plug trees_built f x) ws ≡ frame_words f (spell x ws)
 
-  plugged : (sc : Scope) (f : Frame Tree) (s : Stack Tree) (x : t.Expression) → 1 ≤ holds f → IsStack start (f ∷ s) sc → needs f ≤ level x → IsExpression sc x → Plugged sc f s x
+  plugged : (sc : Scope) (f : Frame Tree) (s : Stack Tree) (x : t.Expression) → 1 ≤ holds f → IsStack start (f ∷ s) sc → needs f ≤ expression_level x → IsExpression sc x → Plugged sc f s x
   plugged sc (InPrefix o) s x h st n wf = record { well_formed = (n, wf); high = refl; rooms = modest s; stack = st; spelled = λ ws. refl }
   plugged sc (InUnary o) s x h st n wf = record { well_formed = (n, wf); high = refl; rooms = modest s; stack = st; spelled = λ ws. refl }
   plugged sc InSizeof s x h st n wf = record { well_formed = (n, wf); high = refl; rooms = modest s; stack = st; spelled = λ ws. refl }
@@ -92,12 +92,12 @@ module _ (start : Scope) where
   record Reduced (sc : Scope) (p : ℕ) (s : Stack Tree) (x : t.Expression) (r : Stack Tree × t.Expression) : Type 0 where
     stack : IsStack start r.0 sc
     well_formed : IsExpression sc r.1
-    fits : stack_needs r.0 ≤ level r.1
+    fits : stack_needs r.0 ≤ expression_level r.1
     loose : stack_holds r.0 < p
-    high : p ≤ level x → p ≤ level r.1
+    high : p ≤ expression_level x → p ≤ expression_level r.1
     spelled : (ws : List Word) → unwind r.0 (spell r.1 ws) ≡ unwind s (spell x ws)
 
-  reduces : (sc : Scope) (p : ℕ) (s : Stack Tree) (x : t.Expression) → 1 ≤ p → IsStack start s sc → IsExpression sc x → stack_needs s ≤ level x → Reduced sc p s x (reduced trees_built p s x)
+  reduces : (sc : Scope) (p : ℕ) (s : Stack Tree) (x : t.Expression) → 1 ≤ p → IsStack start s sc → IsExpression sc x → stack_needs s ≤ expression_level x → Reduced sc p s x (reduced trees_built p s x)
   reduces sc p [] x one st wf fits = record { stack = st; well_formed = wf; fits = fits; loose = one; high = λ h. h; spelled = λ ws. refl }
   reduces sc p (f ∷ s) x one st wf fits =
       cond_both (ltb (holds f) p) (f ∷ s, x) (reduced trees_built p s (plug trees_built f x)) (Reduced sc p (f ∷ s) x)
@@ -111,7 +111,7 @@ module _ (start : Scope) where
   -- ---- a mark behind an operand
 
   module _ (sc : Scope) (x : t.Expression) (wf : IsExpression sc x) where
-    close_goes : (s : Stack Tree) → IsStack start s sc → stack_needs s ≤ level x → Goes start (λ ws. unwind s (spell x (Sign m.Close ∷ ws))) (on_close trees_built sc s x)
+    close_goes : (s : Stack Tree) → IsStack start s sc → stack_needs s ≤ expression_level x → Goes start (λ ws. unwind s (spell x (Sign m.Close ∷ ws))) (on_close trees_built sc s x)
     close_goes [] st n = tt
     close_goes (InParen ∷ s) st n = ((wf, omega arith, st), λ ws. refl)
     close_goes (InCall f xs ∷ s) st n =
@@ -123,7 +123,7 @@ module _ (start : Scope) where
     close_goes (InForStep outer f c ∷ s) st n = ((refl, (st.0, st.1, st.2, wf, st.3)), λ ws. refl)
     close_goes (_ ∷ s) st n = tt
 
-    close_bracket_goes : (s : Stack Tree) → IsStack start s sc → stack_needs s ≤ level x → Goes start (λ ws. unwind s (spell x (Sign m.CloseBracket ∷ ws))) (on_close_bracket trees_built sc s x)
+    close_bracket_goes : (s : Stack Tree) → IsStack start s sc → stack_needs s ≤ expression_level x → Goes start (λ ws. unwind s (spell x (Sign m.CloseBracket ∷ ws))) (on_close_bracket trees_built sc s x)
     close_bracket_goes [] st n = tt
     close_bracket_goes (InIndex y ∷ s) st n = (((st.0, st.1, wf), omega arith, st.2), λ ws. refl)
     close_bracket_goes (InArray k d ∷ s) st n = (((refl, (st.0, st.1, (n, wf)), st.2, st.3, λ ws. st.4 _), st.5), λ ws. refl)
@@ -136,7 +136,7 @@ module _ (start : Scope) where
         (λ e. tt)
         (λ e. ((wf, ltb-false 1 (stack_needs s) e, st), λ ws. refl))
 
-    comma_goes : (s : Stack Tree) → IsStack start s sc → stack_needs s ≤ level x → Goes start (λ ws. unwind s (spell x (Sign m.Comma ∷ ws))) (on_comma trees_built sc s x)
+    comma_goes : (s : Stack Tree) → IsStack start s sc → stack_needs s ≤ expression_level x → Goes start (λ ws. unwind s (spell x (Sign m.Comma ∷ ws))) (on_comma trees_built sc s x)
     comma_goes (InCall f xs ∷ s) st n =
         ((st.0, st.1, AreArguments-last sc xs x st.2 n wf, st.3), λ ws. ap (λ us. unwind s (spell f (Sign m.Open ∷ us))) (lead_expressions-last xs x ws))
     comma_goes (InEnumerator us tag es u ∷ s) st n =
@@ -149,7 +149,7 @@ module _ (start : Scope) where
     comma_goes (InAssert ∷ s) st n = ((n, wf, st), λ ws. refl)
     comma_goes s st n = comma_goes_on s st
 
-    case_goes : (s : Stack Tree) → IsStack start s sc → 3 ≤ level x → Goes start (λ ws. unwind (InCase ∷ s) (spell x (Sign m.Colon ∷ ws))) (case_done trees_built sc s x)
+    case_goes : (s : Stack Tree) → IsStack start s sc → 3 ≤ expression_level x → Goes start (λ ws. unwind (InCase ∷ s) (spell x (Sign m.Colon ∷ ws))) (case_done trees_built sc s x)
     case_goes (InSwitch outer y c ∷ s) st n = (
       (refl, (st.0, body_more start true outer sc c (t.case_label x t.no_part) st.1 st.2 (refl, n, wf, tt), body_scope start outer sc c (t.case_label x t.no_part) st.2, st.3)),
       λ ws. ap (λ us. unwind (InSwitch outer y t.no_part ∷ s) us) (body_spelled c (t.case_label x t.no_part) ws),
@@ -157,13 +157,13 @@ module _ (start : Scope) where
     case_goes [] st n = tt
     case_goes (_ ∷ s) st n = tt
 
-    colon_goes : (s : Stack Tree) → IsStack start s sc → stack_needs s ≤ level x → Goes start (λ ws. unwind s (spell x (Sign m.Colon ∷ ws))) (on_colon trees_built sc s x)
+    colon_goes : (s : Stack Tree) → IsStack start s sc → stack_needs s ≤ expression_level x → Goes start (λ ws. unwind s (spell x (Sign m.Colon ∷ ws))) (on_colon trees_built sc s x)
     colon_goes [] st n = tt
     colon_goes (InThen c ∷ s) st n = ((st.0, st.1, wf, st.2, st.3), λ ws. refl)
     colon_goes (InCase ∷ s) st n = case_goes s st n
     colon_goes (_ ∷ s) st n = tt
 
-    close_brace_goes : (s : Stack Tree) → IsStack start s sc → stack_needs s ≤ level x → Goes start (λ ws. unwind s (spell x (Sign m.CloseBrace ∷ ws))) (on_close_brace trees_built sc s x)
+    close_brace_goes : (s : Stack Tree) → IsStack start s sc → stack_needs s ≤ expression_level x → Goes start (λ ws. unwind s (spell x (Sign m.CloseBrace ∷ ws))) (on_close_brace trees_built sc s x)
     close_brace_goes [] st n = tt
     close_brace_goes (InEnumerator us tag es u ∷ s) st n =
         let base = after_specs st.0 us in
@@ -174,7 +174,7 @@ module _ (start : Scope) where
     close_brace_goes (InItem is g ∷ s) st n = init_goes start sc m.CloseBrace (InItem is g ∷ s) (t.Value x) (n, wf) st
     close_brace_goes (_ ∷ s) st n = tt
 
-    semicolon_goes : (s : Stack Tree) → IsStack start s sc → stack_needs s ≤ level x → Goes start (λ ws. unwind s (spell x (Sign m.Semicolon ∷ ws))) (on_semicolon trees_built sc s x)
+    semicolon_goes : (s : Stack Tree) → IsStack start s sc → stack_needs s ≤ expression_level x → Goes start (λ ws. unwind s (spell x (Sign m.Semicolon ∷ ws))) (on_semicolon trees_built sc s x)
     semicolon_goes [] st n = tt
     semicolon_goes (DeclInit ss ds d ∷ s) st n = init_goes start sc m.Semicolon (DeclInit ss ds d ∷ s) (t.Value x) (n, wf) st
     semicolon_goes (InRun ∷ s) st n = ((wf, refl, refl, st), λ ws. refl)
@@ -185,17 +185,17 @@ module _ (start : Scope) where
 
     assign_goes : (o : AssignOp) (s : Stack Tree) → IsStack start s sc → Goes start (λ ws. unwind s (spell x (Sign (m.Assign o) ∷ ws))) (on_assign trees_built sc o s x)
     assign_goes o s st =
-        cond_both (ltb 2 (stack_needs s)) None (if ltb (level x) 15 then None else Some (sc, InAssign o x ∷ s, Want)) (Goes start (λ ws. unwind s (spell x (Sign (m.Assign o) ∷ ws))))
+        cond_both (ltb 2 (stack_needs s)) None (if ltb (expression_level x) 15 then None else Some (sc, InAssign o x ∷ s, Want)) (Goes start (λ ws. unwind s (spell x (Sign (m.Assign o) ∷ ws))))
         (λ e. tt)
-        (λ e. cond_both (ltb (level x) 15) None (Some (sc, InAssign o x ∷ s, Want)) (Goes start (λ ws. unwind s (spell x (Sign (m.Assign o) ∷ ws))))
+        (λ e. cond_both (ltb (expression_level x) 15) None (Some (sc, InAssign o x ∷ s, Want)) (Goes start (λ ws. unwind s (spell x (Sign (m.Assign o) ∷ ws))))
         (λ d. tt)
-        (λ d. ((ltb-false (level x) 15 d, wf, ltb-false 2 (stack_needs s) e, st), λ ws. refl)))
+        (λ d. ((ltb-false (expression_level x) 15 d, wf, ltb-false 2 (stack_needs s) e, st), λ ws. refl)))
 
-    postfix_goes : (before : List Word → List Word) (next : State Tree) → (16 ≤ level x → Goes start before (Some next)) → Goes start before (on_postfix trees_built x next)
+    postfix_goes : (before : List Word → List Word) (next : State Tree) → (16 ≤ expression_level x → Goes start before (Some next)) → Goes start before (on_postfix trees_built x next)
     postfix_goes before next h =
-        cond_both (ltb (level x) 16) None (Some next) (Goes start before) (λ e. tt) (λ e. h (ltb-false (level x) 16 e))
+        cond_both (ltb (expression_level x) 16) None (Some next) (Goes start before) (λ e. tt) (λ e. h (ltb-false (expression_level x) 16 e))
 
-    act_goes : (k : Mark) (s : Stack Tree) → IsStack start s sc → stack_needs s ≤ level x → stack_holds s < mark_pull k → (mark_pull k ≤ 15 → mark_pull k ≤ level x) → Goes start (λ ws. unwind s (spell x (Sign k ∷ ws))) (act trees_built sc k s x)
+    act_goes : (k : Mark) (s : Stack Tree) → IsStack start s sc → stack_needs s ≤ expression_level x → stack_holds s < mark_pull k → (mark_pull k ≤ 15 → mark_pull k ≤ expression_level x) → Goes start (λ ws. unwind s (spell x (Sign k ∷ ws))) (act trees_built sc k s x)
     act_goes m.Open s st n lt le = postfix_goes _ (sc, s, First x) (λ h. ((h, wf, st), λ ws. refl))
     act_goes m.OpenBracket s st n lt le = postfix_goes _ (sc, InIndex x ∷ s, Want) (λ h. ((h, wf, st), λ ws. refl))
     act_goes (m.Member o) s st n lt le = postfix_goes _ (sc, s, Dotted x o) (λ h. ((h, wf, st), λ ws. refl))

@@ -15,7 +15,7 @@ use Rattle.ct_syntax.specs.declared.expressions.ParameterForm.{ParameterForm}
 use Rattle.ct_syntax.specs.declared.expressions.ParameterForm.TheVariants as form
 use Rattle.ct_syntax.specs.Words.{Text, Word, Named, Numbered, Quote, Literal, Sign, Key, Stray, prefix_mark, qualifier_keyword}
 use Rattle.ct_syntax.specs.Scopes.{Scope}
-use Rattle.ct_syntax.specs.Grammar.{level, infix_level, is_direct, begins_list, fits_form, has_parameters, is_only_void, AreSpecs, AreParameters, IsDeclarator}
+use Rattle.ct_syntax.specs.Grammar.{expression_level, infix_level, is_direct, begins_list, fits_form, has_parameters, is_only_void, AreSpecs, AreParameters, IsDeclarator}
 use Rattle.ct_syntax.specs.Spelling.{spell, spell_texts, spell_qualifiers, spell_tag, spell_form, spell_specs, spell_declarator, spell_parameters}
 use Rattle.ct_syntax.specs.TypeWords.{form_type}
 use Rattle.ct_syntax.specs.Trees as t
@@ -28,8 +28,8 @@ use Rattle.ct_grammar_laws.proofs.TypeParts.{form_has}
 
 -- ---- marks and names
 
-pub postfix_acts : (x : t.Expression) (next : State Tree) → 16 ≤ level x → on_postfix trees_built x next ≡ Some next
-postfix_acts x next h = rw (le-ltb (level x) 16 h) refl
+pub postfix_acts : (x : t.Expression) (next : State Tree) → 16 ≤ expression_level x → on_postfix trees_built x next ≡ Some next
+postfix_acts x next h = rw (le-ltb (expression_level x) 16 h) refl
 
 pub unary_read : (scope : Scope) (o : PrefixOp) (s : Stack Tree) (rest : List Word) → R (Sign (prefix_mark o) ∷ rest) scope s Want ≡ R rest scope (InUnary o ∷ s) Want
 unary_read scope p.Address s rest = refl

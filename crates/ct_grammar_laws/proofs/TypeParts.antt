@@ -7,7 +7,7 @@ use Rattle.ct_syntax.specs.declared.words.SpecWord.{SpecWord}
 use Rattle.ct_syntax.specs.declared.words.SpecWord.TheVariants as s
 use Rattle.ct_syntax.specs.Words.{Text}
 use Rattle.ct_syntax.specs.Trees as t
-use Rattle.ct_syntax.specs.TypeWords.{type_number, count_word, same_words, type_lists, words_of, whole_types, form_type}
+use Rattle.ct_syntax.specs.TypeWords.{type_number, count_word, same_words, type_lists, specifier_words, whole_types, form_type}
 use Rattle.ct_grammar_machine.specs.Algebra.{specs_then, has_type_part}
 
 -- how often each word of a type stands
@@ -60,13 +60,13 @@ form_none n us e h = rw (e, no_list us h) refl
 
 -- specifiers that form a type have a part of one
 pub form_has : (ss : t.Specs) → form_type ss ≡ true → has_type_part ss ≡ true
-form_has ss h = by_value ((whole_types ss == 0) && same_words (words_of ss) []) refl
+form_has ss h = by_value ((whole_types ss == 0) && same_words (specifier_words ss) []) refl
   where
-    by_value : (v : Bool) → ((whole_types ss == 0) && same_words (words_of ss) []) ≡ v → not v ≡ true
+    by_value : (v : Bool) → ((whole_types ss == 0) && same_words (specifier_words ss) []) ≡ v → not v ≡ true
     by_value false e = refl
     by_value true e =
-        let p = and_true (whole_types ss == 0) (same_words (words_of ss) []) e in
-        let no = form_none (whole_types ss) (words_of ss) (is_zero _ p.0) (none_same (words_of ss) p.1) in
+        let p = and_true (whole_types ss == 0) (same_words (specifier_words ss) []) e in
+        let no = form_none (whole_types ss) (specifier_words ss) (is_zero _ p.0) (none_same (specifier_words ss) p.1) in
         absurd cc
 
 pub whole_then : (ss us : t.Specs) → whole_types (specs_then ss us) ≡ whole_types ss + whole_types us
@@ -78,7 +78,7 @@ whole_then (t.struct_list tag ms ss) us = omega (arith, whole_then ss us)
 whole_then (t.enum_tag n ss) us = omega (arith, whole_then ss us)
 whole_then (t.enum_list tag es c ss) us = omega (arith, whole_then ss us)
 
-pub words_then : (ss us : t.Specs) → words_of (specs_then ss us) ≡ words_of ss ++ words_of us
+pub words_then : (ss us : t.Specs) → specifier_words (specs_then ss us) ≡ specifier_words ss ++ specifier_words us
 words_then t.no_spec us = refl
 words_then (t.spec_word w ss) us = ap (λ ws. w ∷ ws) (words_then ss us)
 words_then (t.typedef_name n ss) us = words_then ss us
@@ -122,8 +122,8 @@ typedef_alone ss n us h =
     let all = specs_then ss (t.typedef_name n us) in
     let size = whole_then ss (t.typedef_name n us) in
     let some : 1 ≤ whole_types all = omega (arith, size) in
-    let one = or_false _ _ h (above_zero (whole_types all) (list_any (same_words (words_of all)) type_lists) some) in
-    let p = and_true (whole_types all == 1) (same_words (words_of all) []) one in
+    let one = or_false _ _ h (above_zero (whole_types all) (list_any (same_words (specifier_words all)) type_lists) some) in
+    let p = and_true (whole_types all == 1) (same_words (specifier_words all) []) one in
     let only : whole_types all ≡ 1 = eqb-true (whole_types all) 1 p.0 in
-    let none : AreNone (words_of ss ++ words_of us) = subst AreNone (words_then ss (t.typedef_name n us)) (none_same (words_of all) p.1) in
-    no_part (whole_types ss) (words_of ss) (omega (arith, size, only)) (front_none (words_of ss) (words_of us) none)
+    let none : AreNone (specifier_words ss ++ specifier_words us) = subst AreNone (words_then ss (t.typedef_name n us)) (none_same (specifier_words all) p.1) in
+    no_part (whole_types ss) (specifier_words ss) (omega (arith, size, only)) (front_none (specifier_words ss) (specifier_words us) none)

@@ -3,9 +3,9 @@ use Rattle.std.proofs.Common.{◌≡◌, Bool, true, false, List, [], ◌∷◌,
 use Rattle.std.proofs.lemmas.Bool.{cond_both}
 use Rattle.ct_syntax.specs.Words.{Word}
 use Rattle.ct_syntax.specs.Scopes.{Scope, no_names, after_item}
-use Rattle.ct_syntax.specs.Grammar.{IsUnit}
+use Rattle.ct_syntax.specs.Grammar.{IsTranslationUnit}
 use Rattle.ct_syntax.specs.Spelling.{spell_item}
-use Rattle.ct_syntax.specs.Units.{Spells, NoItem}
+use Rattle.ct_syntax.specs.Units.{SpellsUnit, NoItem}
 use Rattle.ct_syntax.specs.Trees as t
 use Rattle.ct_grammar_machine.specs.Algebra.{Tree, trees_built}
 use Rattle.ct_grammar_machine.specs.Frames.{InUnit, Mode, Begin, Stack, State}
@@ -18,28 +18,28 @@ use Rattle.ct_grammar_laws.proofs.SoundStatements.{run_goes}
 use Rattle.ct_grammar_laws.proofs.Append.{item-append}
 
 -- the unit that spells the words is the one that is read
-pub read : (ws : List Word) (is : List t.Item) → Spells is ws → unit_of trees_built ws ≡ Some is
+pub read : (ws : List Word) (is : List t.Item) → SpellsUnit is ws → unit_of trees_built ws ≡ Some is
 read ws is h = ap (unit_of trees_built) (sym h.spelled) ∙ ap (unit_read trees_built) (reads_unit is no_names [] [] [] h.is_unit)
 
 -- what the state behind all words says
 abbrev Read : List Word → Option (State Tree) → Type 0
-Read ws r = (is : List t.Item) → unit_read trees_built r ≡ Some is → Spells is ws
+Read ws r = (is : List t.Item) → unit_read trees_built r ≡ Some is → SpellsUnit is ws
 
 found : (ws : List Word) (r : Option (State Tree)) → Goes no_names (λ rest. ws ++ rest) r → Read ws r
 found ws (Some (sc, InUnit js ∷ [], Begin)) h is e =
     let same : js ≡ is = cc in
-    subst (λ us. Spells us ws) same (record { is_unit = subst (λ z. IsUnit z js) h.0.1.3 h.0.1.1; spelled = h.1 [] ∙ append_none ws })
+    subst (λ us. SpellsUnit us ws) same (record { is_unit = subst (λ z. IsTranslationUnit z js) h.0.1.3 h.0.1.1; spelled = h.1 [] ∙ append_none ws })
   where
     append_none : (us : List Word) → us ++ [] ≡ us
     append_none [] = refl
     append_none (u ∷ us) = ap (λ vs. u ∷ vs) (append_none us)
 found ws _ h is e = absurd cc
 
-pub spells : (ws : List Word) (is : List t.Item) → unit_of trees_built ws ≡ Some is → Spells is ws
+pub spells : (ws : List Word) (is : List t.Item) → unit_of trees_built ws ≡ Some is → SpellsUnit is ws
 spells ws is e = found ws (run trees_built ws no_names (InUnit [] ∷ []) Begin) (run_goes no_names ws no_names (InUnit [] ∷ []) Begin (refl, (no_names, tt, refl, refl))) is e
 
 -- at most one unit spells the words
-pub one_unit : (ws : List Word) (is js : List t.Item) → Spells is ws → Spells js ws → is ≡ js
+pub one_unit : (ws : List Word) (is js : List t.Item) → SpellsUnit is ws → SpellsUnit js ws → is ≡ js
 one_unit ws is js h k = let e = sym (read ws is h) ∙ read ws js k in cc
 
 -- ---- where no item is

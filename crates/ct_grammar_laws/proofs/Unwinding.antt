@@ -8,7 +8,7 @@ use Rattle.ct_syntax.specs.declared.words.MemberOp.TheVariants as op
 use Rattle.ct_syntax.specs.Words.{Text, Word, Named, Literal, Sign, Key, prefix_mark, star}
 use Rattle.ct_syntax.specs.Scopes.{Scope, with_name, name_of, after_specs, after_members, after_enumerators, after_declarator, after_parameters, after_init_declarators, after_for_start, after_unit, inside_definition}
 use Rattle.ct_syntax.specs.TypeWords.{form_type}
-use Rattle.ct_syntax.specs.Grammar.{infix_level, level, is_direct, begins_list, has_members, has_enumerators, has_declarators, has_parameters, IsExpression, AreArguments, IsOptional, AreSpecs, AreMembers, AreEnumerators, AreDeclarators, IsDeclarator, AreParameters, has_items, has_branches, is_open, is_if, IsDesignator, IsInitialiser, AreItems, AreInitDeclarators, IsMaybe, IsForStart, IsStatement, IsBody, IsUnit}
+use Rattle.ct_syntax.specs.Grammar.{infix_level, expression_level, is_direct, begins_list, has_members, has_enumerators, has_declarators, has_parameters, IsExpression, AreArguments, IsOptional, AreSpecs, AreMembers, AreEnumerators, AreDeclarators, IsDeclarator, AreParameters, has_items, has_branches, takes_else, is_if, IsDesignator, IsInitialiser, AreItems, AreInitDeclarators, IsMaybe, IsForStart, IsStatement, IsBody, IsTranslationUnit}
 use Rattle.ct_syntax.specs.Spelling.{spell, spell_list, spell_more, spell_texts, spell_qualifiers, spell_tag, spell_comma, spell_specs, spell_members, spell_declarators, spell_more_declarators, spell_enumerators, spell_more_enumerators, spell_value, spell_declarator, spell_parameters, spell_more_parameters, spell_designator, spell_initialiser, spell_maybe, spell_for_start, spell_statement, spell_branches, spell_body, spell_unit}
 use Rattle.ct_syntax.specs.Trees as t
 use Rattle.ct_grammar_machine.specs.Algebra.{Tree, trees_built, expressions_then, specs_then, members_then, enumerators_then, declarators_then, parameters_then, designator_of, Aimed, AtNext, AtMember, AtIndex}
@@ -118,7 +118,7 @@ parameters_comma (t.parameter us e ps) ws h = ap (λ vs. spell_specs us (spell_d
 
 -- ---- well-formed lists with one part more
 
-pub AreArguments-last : (scope : Scope) (xs : t.Expressions) (x : t.Expression) → AreArguments scope xs → 2 ≤ level x → IsExpression scope x → AreArguments scope (expressions_then xs (t.expression x t.no_expression))
+pub AreArguments-last : (scope : Scope) (xs : t.Expressions) (x : t.Expression) → AreArguments scope xs → 2 ≤ expression_level x → IsExpression scope x → AreArguments scope (expressions_then xs (t.expression x t.no_expression))
 AreArguments-last scope t.no_expression x all le wf = (le, wf, tt)
 AreArguments-last scope (t.expression y xs) x all le wf = (all.0, all.1, AreArguments-last scope xs x all.2 le wf)
 
@@ -355,16 +355,16 @@ IsPlaced _ = Unit {0}
 -- given.
 abbrev pub Rests : Frame Tree → Scope → Stack Tree → (Scope → Type 0) → Type 0
 Rests InParen sc s below = below sc
-Rests (InCall f xs) sc s below = (16 ≤ level f) × IsExpression sc f × AreArguments sc xs × below sc
-Rests (InIndex x) sc s below = (16 ≤ level x) × IsExpression sc x × below sc
+Rests (InCall f xs) sc s below = (16 ≤ expression_level f) × IsExpression sc f × AreArguments sc xs × below sc
+Rests (InIndex x) sc s below = (16 ≤ expression_level x) × IsExpression sc x × below sc
 Rests (InPrefix o) sc s below = below sc
 Rests (InUnary o) sc s below = below sc
 Rests InSizeof sc s below = below sc
 Rests (InCast ss d) sc s below = AreSpecs sc ss × (form_type ss ≡ true) × (name_of d ≡ None) × IsDeclarator true (after_specs sc ss) d × (stack_needs s ≤ 14) × below sc
-Rests (InInfix o x) sc s below = (infix_level o ≤ level x) × IsExpression sc x × (stack_needs s ≤ infix_level o) × below sc
-Rests (InThen c) sc s below = (4 ≤ level c) × IsExpression sc c × (stack_needs s ≤ 3) × below sc
-Rests (InElse c x) sc s below = (4 ≤ level c) × IsExpression sc c × IsExpression sc x × (stack_needs s ≤ 3) × below sc
-Rests (InAssign o x) sc s below = (15 ≤ level x) × IsExpression sc x × (stack_needs s ≤ 2) × below sc
+Rests (InInfix o x) sc s below = (infix_level o ≤ expression_level x) × IsExpression sc x × (stack_needs s ≤ infix_level o) × below sc
+Rests (InThen c) sc s below = (4 ≤ expression_level c) × IsExpression sc c × (stack_needs s ≤ 3) × below sc
+Rests (InElse c x) sc s below = (4 ≤ expression_level c) × IsExpression sc c × IsExpression sc x × (stack_needs s ≤ 3) × below sc
+Rests (InAssign o x) sc s below = (15 ≤ expression_level x) × IsExpression sc x × (stack_needs s ≤ 2) × below sc
 Rests (InComma x) sc s below = IsExpression sc x × (stack_needs s ≤ 1) × below sc
 Rests (CastSpecs outer) sc s below = (outer ≡ sc) × (stack_needs s ≤ 14) × below sc
 Rests (SizeofSpecs outer) sc s below = (outer ≡ sc) × below sc
@@ -403,7 +403,7 @@ Rests (InSwitch outer x c) sc s below = IsExpression outer x × IsBody true oute
 Rests (InFunction outer ss d c) sc s below =
     (base : Scope) × AreSpecs base ss × (form_type ss ≡ true) × IsDeclarator false (after_specs base ss) d × (outer ≡ after_declarator (after_specs base ss) ss d)
     × IsBody false (inside_definition base ss d) c × (sc ≡ after_body (inside_definition base ss d) c) × below base
-Rests (InUnit is) sc s below = (base : Scope) × IsUnit base is × (sc ≡ after_unit base is) × below base
+Rests (InUnit is) sc s below = (base : Scope) × IsTranslationUnit base is × (sc ≡ after_unit base is) × below base
 Rests InCase sc s below = below sc
 Rests InRun sc s below = below sc
 Rests InReturn sc s below = below sc
@@ -436,10 +436,10 @@ module _ (start : Scope) where
 
   abbrev pub IsAt : Mode Tree → Scope → Stack Tree → Type 0
   IsAt Want sc s = IsStack s sc
-  IsAt (Have x) sc s = IsExpression sc x × (15 ≤ level x) × IsStack s sc
+  IsAt (Have x) sc s = IsExpression sc x × (15 ≤ expression_level x) × IsStack s sc
   IsAt (Texts u us) sc s = IsStack s sc
-  IsAt (First f) sc s = (16 ≤ level f) × IsExpression sc f × IsStack s sc
-  IsAt (Dotted x o) sc s = (16 ≤ level x) × IsExpression sc x × IsStack s sc
+  IsAt (First f) sc s = (16 ≤ expression_level f) × IsExpression sc f × IsStack s sc
+  IsAt (Dotted x o) sc s = (16 ≤ expression_level x) × IsExpression sc x × IsStack s sc
   IsAt (Specs ss) sc s = AreRead sc s ss
   IsAt (Tagging k ss) sc s = AreRead sc s ss
   IsAt (Tagged k ss u) sc s = AreRead sc s ss
@@ -462,12 +462,12 @@ module _ (start : Scope) where
   IsAt Pointed sc s = IsStack s sc
   IsAt (Placed g) sc s = IsPlaced g × IsDesignator sc (designator_of g) × IsStack s sc
   IsAt (Opening aim) sc s = IsStack (aim_frame trees_built aim ∷ s) sc
-  IsAt (AssertText x) sc s = (3 ≤ level x) × IsExpression sc x × IsStack s sc
-  IsAt (AssertClose x u) sc s = (3 ≤ level x) × IsExpression sc x × IsStack s sc
-  IsAt (AssertEnd x u) sc s = (3 ≤ level x) × IsExpression sc x × IsStack s sc
+  IsAt (AssertText x) sc s = (3 ≤ expression_level x) × IsExpression sc x × IsStack s sc
+  IsAt (AssertClose x u) sc s = (3 ≤ expression_level x) × IsExpression sc x × IsStack s sc
+  IsAt (AssertEnd x u) sc s = (3 ≤ expression_level x) × IsExpression sc x × IsStack s sc
   IsAt Begin sc s = (top_is_else s ≡ false) × IsStack s sc
-  IsAt (Done u) sc s = IsStatement sc u × (is_open u ≡ false) × (is_if u ≡ false) × IsStack s sc
-  IsAt (Ending u) sc s = IsStatement sc u × (is_open u ≡ false) × (is_if u ≡ false) × ((ws : List Word) → ending_words u (Sign m.Semicolon ∷ ws) ≡ spell_statement u ws) × IsStack s sc
+  IsAt (Done u) sc s = IsStatement sc u × (takes_else u ≡ false) × (is_if u ≡ false) × IsStack s sc
+  IsAt (Ending u) sc s = IsStatement sc u × (takes_else u ≡ false) × (is_if u ≡ false) × ((ws : List Word) → ending_words u (Sign m.Semicolon ∷ ws) ≡ spell_statement u ws) × IsStack s sc
   IsAt (AfterElse bs) sc s = (has_branches bs ≡ true) × AreLed sc bs × (top_is_else s ≡ false) × IsStack s sc
   IsAt Returning sc s = IsStack s sc
   IsAt (Switching x) sc s = IsExpression sc x × IsStack s sc

@@ -11,8 +11,8 @@ use Rattle.ct_syntax.specs.declared.expressions.ParameterForm.{ParameterForm}
 use Rattle.ct_syntax.specs.Words.{Text}
 use Rattle.ct_syntax.specs.Trees as t
 use Rattle.ct_syntax.specs.Scopes.{Scope, name_of, is_typedef, after_parameters, own_parameters}
-use Rattle.ct_syntax.specs.TypeWords.{form_type, whole_types, words_of, same_words}
-use Rattle.ct_syntax.specs.Grammar.{level, is_only_void}
+use Rattle.ct_syntax.specs.TypeWords.{form_type, whole_types, specifier_words, same_words}
+use Rattle.ct_syntax.specs.Grammar.{expression_level, is_only_void}
 
 pub data Sort : Type 0 where
   expr : Sort
@@ -200,7 +200,7 @@ other_of (Some s) = t.else_do s
 
 -- whether a part of a type stands among specifiers
 abbrev pub has_type_part : t.Specs → Bool
-has_type_part ss = not ((whole_types ss == 0) && same_words (words_of ss) [])
+has_type_part ss = not ((whole_types ss == 0) && same_words (specifier_words ss) [])
 
 abbrev pub trees_built : Algebra Tree
 trees_built = record {
@@ -278,7 +278,7 @@ trees_built = record {
   push_definition = λ is ss d b. is ++ t.Definition ss d b ∷ [];
   push_outside = λ is d. is ++ t.Outside d ∷ [];
   push_lone = λ is. is ++ t.Lone ∷ [];
-  level_of = level;
+  level_of = expression_level;
   forms_type = form_type;
   has_type = has_type_part;
   declares_types = is_typedef;

@@ -6,3 +6,6 @@ mod ItemRead
 mod OneUnit
 pub mod Loop
 pub mod OneMore
+pub mod UnsupportedText
+pub mod FirstUnsupported
+pub mod OneUnsupported

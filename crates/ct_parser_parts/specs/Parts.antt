@@ -5,9 +5,9 @@ use Rattle.std.specs.List.{list_any}
 use Rattle.ct_syntax.specs.declared.words.SpecWord.{SpecWord}
 use Rattle.ct_syntax.specs.declared.words.SpecWord.TheVariants as s
 use Rattle.ct_syntax.specs.Words.{Text}
-use Rattle.ct_syntax.specs.Scopes.{Scope, with_name, name_of, is_typedef, is_plain, own_parameters}
-use Rattle.ct_syntax.specs.TypeWords.{same_words, type_lists, words_of, whole_types}
-use Rattle.ct_syntax.specs.Grammar.{infix_level, level, is_only_void}
+use Rattle.ct_syntax.specs.Scopes.{Scope, with_name, name_of, is_typedef, is_plain_declarator, own_parameters}
+use Rattle.ct_syntax.specs.TypeWords.{same_words, type_lists, specifier_words, whole_types}
+use Rattle.ct_syntax.specs.Grammar.{infix_level, expression_level, is_only_void}
 use Rattle.ct_parser_parts.specs.Reach.{Depth, flat, both, in_expression, in_declarator, in_statement, is_within, depth, depths, depth_specs, depth_members, depth_enumerators, depth_declarators, depth_declarator, depth_parameters, depth_initialiser, depth_items, depth_init_declarators, depth_declaration, depth_for_start, depth_statement, depth_branches, depth_body, depth_unit}
 use Rattle.ct_syntax.specs.Trees as t
 use Rattle.ct_grammar_machine.specs.Algebra.{Sort, expr, exprs, specs, members, enumerators, declarators, decl, parameters, init, inits, init_declarators, declaration, for_start, stmt, branches, body, items, Aimed, AtNext, AtMember, AtIndex, Algebra, Tree, designator_of, other_of, expressions_then, specs_then, members_then, enumerators_then, declarators_then, parameters_then, inits_then, branches_then, body_then}
@@ -91,16 +91,16 @@ is_one_void (s.Void ∷ []) = true
 is_one_void _ = false
 
 abbrev pub spec_info : t.Specs → SpecInfo
-spec_info ss = record { words = words_of ss; wholes = whole_types ss; typedef = is_typedef ss; names = names_specs ss }
+spec_info ss = record { words = specifier_words ss; wholes = whole_types ss; typedef = is_typedef ss; names = names_specs ss }
 
 abbrev pub declarator_info : t.Declarator → DeclaratorInfo
-declarator_info d = record { nameless = is_nameless d; name = name_of d; plain = is_plain d; own = names_parameters (own_parameters d) }
+declarator_info d = record { nameless = is_nameless d; name = name_of d; plain = is_plain_declarator d; own = names_parameters (own_parameters d) }
 
 abbrev pub parameter_info : t.Parameters → ParameterInfo
 parameter_info ps = record { empty = is_empty ps; only_void = is_only_void ps; names = names_parameters ps }
 
 abbrev pub info_of : (sort : Sort) → Tree sort → Info sort
-info_of expr x = level x
+info_of expr x = expression_level x
 info_of specs ss = spec_info ss
 info_of members ms = names_members ms
 info_of enumerators es = names_enumerators es

@@ -1,14 +1,15 @@
 //! What the grammar reads of a token.
 
 ghost use Rattle.std.specs.Prelude.{◌≡◌};
-ghost use Rattle.ct_syntax.specs.Words.{mark_text, keyword_text, mark_of, keyword_of, word};
+ghost use Rattle.ct_syntax.specs.Words.{mark_of, keyword_of, word};
 ghost use Rattle.ct_syntax.specs.Words as spec;
 ghost use Rattle.ct_base.specs.declared.lexical.TokenKind.TheVariants.{Name as spec_name, Punct as spec_punct};
-ghost use Rattle.ct_parser_state.specs.Terminals.{word_of, infix_text, assign_text, spec_text};
+ghost use Rattle.ct_parser_state.specs.Terminals.{word_of};
 
 use ct_base::{BinaryOp, Token, TokenKind};
-use ct_left_out::is_left_out_word;
-use ct_syntax::{AssignOp, InfixOp, Keyword, Mark, MemberOp, SpecWord, StepOp};
+use ct_syntax::{
+    AssignOp, InfixOp, Keyword, Mark, MemberOp, SpecWord, StepOp, is_left_out_word,
+};
 
 /// What a token is for the grammar. The text of a name, a constant or a string literal stays with the token.
 #[derive(Clone, Copy, Debug, PartialEq, Eq)]
@@ -22,124 +23,6 @@ pub enum Terminal {
     Keyword(Keyword),
     /// A token that the grammar does not have.
     Stray,
-}
-
-fn infix_bytes(op: InfixOp) -> &'static [u8]
-    ensures { result.now ≡ infix_text op }
-{
-    match op {
-        InfixOp::LogicalAnd => b"&&",
-        InfixOp::LogicalOr => b"||",
-        InfixOp::Number(op) => match op {
-            BinaryOp::Multiply => b"*",
-            BinaryOp::Divide => b"/",
-            BinaryOp::Remainder => b"%",
-            BinaryOp::Add => b"+",
-            BinaryOp::Subtract => b"-",
-            BinaryOp::ShiftLeft => b"<<",
-            BinaryOp::ShiftRight => b">>",
-            BinaryOp::Less => b"<",
-            BinaryOp::Greater => b">",
-            BinaryOp::LessEqual => b"<=",
-            BinaryOp::GreaterEqual => b">=",
-            BinaryOp::Equal => b"==",
-            BinaryOp::NotEqual => b"!=",
-            BinaryOp::And => b"&",
-            BinaryOp::Xor => b"^",
-            BinaryOp::Or => b"|",
-        },
-    }
-}
-
-fn assign_bytes(op: AssignOp) -> &'static [u8]
-    ensures { result.now ≡ assign_text op }
-{
-    match op {
-        AssignOp::Plain => b"=",
-        AssignOp::Multiply => b"*=",
-        AssignOp::Divide => b"/=",
-        AssignOp::Remainder => b"%=",
-        AssignOp::Add => b"+=",
-        AssignOp::Subtract => b"-=",
-        AssignOp::ShiftLeft => b"<<=",
-        AssignOp::ShiftRight => b">>=",
-        AssignOp::And => b"&=",
-        AssignOp::Xor => b"^=",
-        AssignOp::Or => b"|=",
-    }
-}
-
-fn mark_bytes(mark: Mark) -> &'static [u8]
-    ensures { result.now ≡ mark_text mark }
-{
-    match mark {
-        Mark::Open => b"(",
-        Mark::Close => b")",
-        Mark::OpenBracket => b"[",
-        Mark::CloseBracket => b"]",
-        Mark::OpenBrace => b"{",
-        Mark::CloseBrace => b"}",
-        Mark::Comma => b",",
-        Mark::Semicolon => b";",
-        Mark::Colon => b":",
-        Mark::Question => b"?",
-        Mark::Ellipsis => b"...",
-        Mark::Complement => b"~",
-        Mark::Not => b"!",
-        Mark::Member(MemberOp::Dot) => b".",
-        Mark::Member(MemberOp::Arrow) => b"->",
-        Mark::Step(StepOp::Increment) => b"++",
-        Mark::Step(StepOp::Decrement) => b"--",
-        Mark::Infix(op) => infix_bytes(op),
-        Mark::Assign(op) => assign_bytes(op),
-    }
-}
-
-fn spec_bytes(word: SpecWord) -> &'static [u8]
-    ensures { result.now ≡ spec_text word }
-{
-    match word {
-        SpecWord::Typedef => b"typedef",
-        SpecWord::Extern => b"extern",
-        SpecWord::Static => b"static",
-        SpecWord::Auto => b"auto",
-        SpecWord::Register => b"register",
-        SpecWord::Inline => b"inline",
-        SpecWord::Const => b"const",
-        SpecWord::Volatile => b"volatile",
-        SpecWord::Void => b"void",
-        SpecWord::Bool => b"_Bool",
-        SpecWord::Char => b"char",
-        SpecWord::Short => b"short",
-        SpecWord::Int => b"int",
-        SpecWord::Long => b"long",
-        SpecWord::Signed => b"signed",
-        SpecWord::Unsigned => b"unsigned",
-    }
-}
-
-fn keyword_bytes(keyword: Keyword) -> &'static [u8]
-    ensures { result.now ≡ keyword_text keyword }
-{
-    match keyword {
-        Keyword::Spec(word) => spec_bytes(word),
-        Keyword::Struct => b"struct",
-        Keyword::Enum => b"enum",
-        Keyword::Restrict => b"restrict",
-        Keyword::Sizeof => b"sizeof",
-        Keyword::StaticAssert => b"_Static_assert",
-        Keyword::If => b"if",
-        Keyword::Else => b"else",
-        Keyword::While => b"while",
-        Keyword::Do => b"do",
-        Keyword::For => b"for",
-        Keyword::Switch => b"switch",
-        Keyword::Case => b"case",
-        Keyword::Default => b"default",
-        Keyword::Break => b"break",
-        Keyword::Continue => b"continue",
-        Keyword::Return => b"return",
-    }
 }
 
 const MARKS: [Mark; 46] = [
@@ -230,7 +113,7 @@ const KEYWORDS: [Keyword; 32] = [
 fn mark_spelled(text: &[u8]) -> Option<Mark>
     ensures { result ≡ mark_of text.now }
 {
-    MARKS.iter().copied().find(|mark| text == mark_bytes(*mark))
+    MARKS.iter().copied().find(|mark| text == mark.text())
 }
 
 /// The keyword that a text spells.
@@ -240,7 +123,7 @@ fn keyword_spelled(text: &[u8]) -> Option<Keyword>
     KEYWORDS
         .iter()
         .copied()
-        .find(|keyword| text == keyword_bytes(*keyword))
+        .find(|keyword| text == keyword.text())
 }
 
 fn name_terminal(text: &[u8]) -> Terminal

@@ -7,7 +7,7 @@ use Rattle.ct_syntax.specs.Words.{words, text_tokens}
 use Rattle.ct_syntax.specs.Trees.{Item}
 use Rattle.ct_syntax.specs.Spelling.{spell_unit}
 use Rattle.ct_syntax.specs.Depths.{Room, all_room, or_else, passed_item, passed_unit}
-use Rattle.ct_syntax.specs.Units.{Spells, IsShallow}
+use Rattle.ct_syntax.specs.Units.{SpellsUnit, IsShallow}
 use Rattle.ct_token.proofs.Unique.{same_tokens}
 use Rattle.ct_parser.specs.Parses.{Cause, Refused}
 use Rattle.ct_grammar_laws.proofs.Units.{one_unit}
@@ -17,12 +17,12 @@ use Rattle.ct_print.proofs.Printed.{printed_tokens}
 use Rattle.ct_print_laws.specs.TextTokens.{AreOfPrinted}
 
 -- the tree spells them
-pub spells_own : (items : List Item) (tokens : List Token) → AreOfPrinted items tokens → Spells items (words tokens)
+pub spells_own : (items : List Item) (tokens : List Token) → AreOfPrinted items tokens → SpellsUnit items (words tokens)
 spells_own items tokens h =
     let text = text_of (spell_unit items []) in
     let own : IsTextOf items h.file text = printed_tokens items h.file h.printable in
     let same : own.tokens ≡ h.all = same_tokens h.file text own.tokens h.all own.tokenization h.tokenization in
-    subst (λ ts. Spells items (words ts)) (ap text_tokens same ∙ sym h.kept) own.spells
+    subst (λ ts. SpellsUnit items (words ts)) (ap text_tokens same ∙ sym h.kept) own.spells
 
 -- ---- limits of depth
 
@@ -42,7 +42,7 @@ none_deep r (i ∷ earlier) deep later e = none_deep r earlier deep later (none_
 
 -- ---- refusals
 
-refused_at : (items : List Item) (before : List Token) (token : Token) (after : List Token) (limit : Option LimitKind) → Spells items (words (before ++ token ∷ after)) → IsShallow items → Cause before token after limit → ⊥
+refused_at : (items : List Item) (before : List Token) (token : Token) (after : List Token) (limit : Option LimitKind) → SpellsUnit items (words (before ++ token ∷ after)) → IsShallow items → Cause before token after limit → ⊥
 refused_at items before token after None spells shallow cause = cause.1 items spells
 refused_at items before token after (Some kind) spells shallow cause =
     let same : items ≡ cause.earlier ++ cause.deep ∷ cause.later = one_unit (words (before ++ token ∷ after)) items (cause.earlier ++ cause.deep ∷ cause.later) spells cause.spells in
@@ -51,11 +51,11 @@ refused_at items before token after (Some kind) spells shallow cause =
     absurd cc
 
 -- Tokens that a tree spells which passes no limit are not refused.
-pub not_refused : (items : List Item) (tokens : List Token) (span : Span) (limit : Option LimitKind) → Spells items (words tokens) → IsShallow items → Refused tokens span limit → ⊥
+pub not_refused : (items : List Item) (tokens : List Token) (span : Span) (limit : Option LimitKind) → SpellsUnit items (words tokens) → IsShallow items → Refused tokens span limit → ⊥
 not_refused items tokens span limit spells shallow h =
-    refused_at items h.before h.token h.after limit (subst (λ ts. Spells items (words ts)) h.split spells) shallow h.cause
+    refused_at items h.before h.token h.after limit (subst (λ ts. SpellsUnit items (words ts)) h.split spells) shallow h.cause
 
 -- Tokens that a tree spells are refused by a limit alone.
-pub not_unspelled : (items : List Item) (tokens : List Token) (span : Span) → Spells items (words tokens) → Refused tokens span None → ⊥
+pub not_unspelled : (items : List Item) (tokens : List Token) (span : Span) → SpellsUnit items (words tokens) → Refused tokens span None → ⊥
 not_unspelled items tokens span spells h =
-    h.cause.1 items (subst (λ ts. Spells items (words ts)) h.split spells)
+    h.cause.1 items (subst (λ ts. SpellsUnit items (words ts)) h.split spells)

@@ -1,8 +1,8 @@
 use Rattle.std.proofs.Common.{rules}
 use Rattle.std.proofs.lemmas.Iterator.{YieldsList-from_slice, IsFirst-from_position}
-use Rattle.ct_left_out.specs.Unsupported.{IsUnsupported}
-use Rattle.ct_left_out.proofs.First.{IsSupported, first_of_search}
-use Rattle.ct_left_out.proofs.unsupported.Goals as goal
+use Rattle.ct_parser.specs.Unsupported.{IsUnsupported}
+use Rattle.ct_parser.proofs.FirstUnsupported.{IsSupported, first_of_search}
+use Rattle.ct_parser.proofs.left_out.unsupported.Goals as goal
 use borrow.Author.Tests.{tests}
 
 pub returns : goal.returns

@@ -1,6 +1,6 @@
 use Rattle.ct_base.specs.declared.lexical.TokenKind.TheVariants as k
-use Rattle.ct_left_out.proofs.Spelled.{of_token}
-use Rattle.ct_left_out.proofs.is_unsupported.Goals as goal
+use Rattle.ct_parser.proofs.UnsupportedText.{of_token}
+use Rattle.ct_parser.proofs.left_out.is_unsupported.Goals as goal
 
 pub returns-in-Char : goal.returns-in-Char
 returns-in-Char c =

@@ -6,7 +6,7 @@ use Rattle.std.proofs.Math.Seq.{split_at}
 use Rattle.std.proofs.lemmas.List.{length-take-le}
 use Rattle.std.proofs.lemmas.List.Elements.{All-from_all_within}
 use Rattle.ct_base.specs.declared.lexical.Token.{Token}
-use Rattle.ct_left_out.specs.Unsupported.{IsUnsupported, IsFirst}
+use Rattle.ct_parser.specs.Unsupported.{IsUnsupported, IsFirst}
 
 abbrev pub IsSupported : Token → Type 0
 IsSupported token = IsUnsupported token → ⊥

@@ -1,7 +1,7 @@
 use Rattle.std.proofs.Common.{sym, subst}
 use Rattle.ct_base.specs.declared.lexical.TokenKind.TheVariants as k
-use Rattle.ct_left_out.proofs.Spelled.{Tells, by_count}
-use Rattle.ct_left_out.proofs.spells_no_character.Goals as goal
+use Rattle.ct_parser.proofs.UnsupportedText.{Tells, by_count}
+use Rattle.ct_parser.proofs.left_out.spells_no_character.Goals as goal
 
 pub returns : goal.returns
 returns c =

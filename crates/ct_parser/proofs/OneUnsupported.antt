@@ -3,8 +3,8 @@ use Rattle.std.proofs.Common.{◌≡◌, ℕ, suc, List, [], ◌∷◌, ◌++◌
 use Rattle.std.specs.List.{AllByRecursion}
 use Rattle.std.proofs.lemmas.List.Elements.{recursion_from_All}
 use Rattle.ct_base.specs.declared.lexical.Token.{Token}
-use Rattle.ct_left_out.specs.Unsupported.{IsUnsupported, IsFirst}
-use Rattle.ct_left_out.proofs.First.{IsSupported}
+use Rattle.ct_parser.specs.Unsupported.{IsUnsupported, IsFirst}
+use Rattle.ct_parser.proofs.FirstUnsupported.{IsSupported}
 
 -- what stands before the first one has one length
 same_before : (xs ys : List Token) (t u : Token) (r s : List Token) → AllByRecursion IsSupported xs → AllByRecursion IsSupported ys → IsUnsupported t → IsUnsupported u → xs ++ t ∷ r ≡ ys ++ u ∷ s → length xs ≡ length ys

@@ -9,7 +9,7 @@ use Rattle.ct_base.specs.declared.lexical.TokenKind.TheVariants as k
 use Rattle.ct_base.specs.declared.lexical.TokenKind.{TokenKind}
 use Rattle.ct_token.specs.Constants.{Decodes}
 use Rattle.ct_token.proofs.Decoding.{same_decoding}
-use Rattle.ct_left_out.specs.Unsupported.{IsUnsupportedText}
+use Rattle.ct_parser.specs.Unsupported.{IsUnsupportedText}
 
 -- how many bytes a text spells, where it spells any
 abbrev pub Counts : List ℕ → Option ℕ → Type 0

@@ -1,5 +1,5 @@
-use Rattle.ct_left_out.proofs.Spelled.{by_no_count}
-use Rattle.ct_left_out.proofs.spells_nothing.Goals as goal
+use Rattle.ct_parser.proofs.UnsupportedText.{by_no_count}
+use Rattle.ct_parser.proofs.left_out.spells_nothing.Goals as goal
 
 pub returns : goal.returns
 returns c =
