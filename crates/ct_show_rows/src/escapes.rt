@@ -68,3 +68,36 @@ pub fn push_unescaped(line: &[u8], out: &mut Vec<u8>) -> Mem<()> {
     }
     Ok(())
 }
+
+/// Appends a hexadecimal digit of this value.
+fn push_digit(value: u8, out: &mut String) -> Mem<()> {
+    match char::from_digit(u32::from(value), 16) {
+        Some(digit) => Ok(out.push(digit)?),
+        None => Ok(()),
+    }
+}
+
+/// Appends a byte, by an escape where it is a backslash or no printable character of ASCII.
+fn push_byte(byte: u8, out: &mut String) -> Mem<()> {
+    match byte {
+        b'\n' => out.push_str("\\n")?,
+        b'\r' => out.push_str("\\r")?,
+        b'\t' => out.push_str("\\t")?,
+        b'\\' => out.push_str("\\\\")?,
+        b' '..=b'~' => out.push(char::from(byte))?,
+        _ => {
+            out.push_str("\\x")?;
+            push_digit(byte / 16, out)?;
+            push_digit(byte % 16, out)?;
+        }
+    }
+    Ok(())
+}
+
+/// Appends bytes, with escapes for backslashes and for what is no printable character of ASCII.
+pub fn push_escaped(bytes: &[u8], out: &mut String) -> Mem<()> {
+    for byte in bytes {
+        push_byte(*byte, out)?;
+    }
+    Ok(())
+}

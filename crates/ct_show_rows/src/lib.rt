@@ -9,5 +9,6 @@ mod reader;
 mod row;
 
 pub use counts::{Counts, push_difference};
+pub use escapes::push_escaped;
 pub use reader::RowReader;
 pub use row::{Part, Row};
