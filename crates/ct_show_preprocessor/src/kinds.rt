@@ -1,6 +1,7 @@
-//! The kinds of tokens.
+//! The kinds and the texts of tokens.
 
-use ct_base::TokenKind;
+use ct_base::{Mem, TokenKind};
+use ct_show_rows::push_escaped;
 
 /// The name of a kind.
 pub fn name_of_kind(kind: TokenKind) -> &'static str {
@@ -12,5 +13,13 @@ pub fn name_of_kind(kind: TokenKind) -> &'static str {
         TokenKind::Punct => "punctuator",
         TokenKind::Line => "line",
         TokenKind::Other => "other",
+    }
+}
+
+/// Appends the text of a token, with escapes where it is no UTF-8.
+pub fn push_text(bytes: &[u8], out: &mut String) -> Mem<()> {
+    match str::from_utf8(bytes) {
+        Ok(text) => Ok(out.push_str(text)?),
+        Err(_) => push_escaped(bytes, out),
     }
 }

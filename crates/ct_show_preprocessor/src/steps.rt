@@ -1,10 +1,11 @@
 //! The steps of a row about macros.
 
+use crate::kinds::push_text;
 use crate::scan::{tokens_of, words_of};
 use ct_base::{Fail, Mem, OutOfMemory, Token, TokenKind};
 use ct_directive::definition_in;
 use ct_macro::{Expansion, MacroFault, MacroKind, Macros, expand};
-use ct_show_rows::{Part, push_escaped};
+use ct_show_rows::Part;
 use std::alloc::Global;
 
 /// The macros so far, and how texts are expanded.
@@ -32,7 +33,7 @@ fn name_of_kind(kind: MacroKind) -> &'static str {
 fn push_fault(alloc: Global, fault: &MacroFault, out: &mut String) -> Mem<()> {
     out.push_str(name_of_kind(fault.kind))?;
     out.push(' ')?;
-    push_escaped(fault.name.as_slice(), out)?;
+    push_text(fault.name.as_slice(), out)?;
     let line = format!(in alloc; " {}\n", fault.line)?;
     Ok(out.push_str(line.as_str())?)
 }
@@ -40,7 +41,7 @@ fn push_fault(alloc: Global, fault: &MacroFault, out: &mut String) -> Mem<()> {
 /// Appends the texts of tokens, with a space between two.
 fn push_tokens(tokens: &[Token], out: &mut String) -> Mem<()> {
     for token in tokens {
-        push_escaped(token.text.as_slice(), out)?;
+        push_text(token.text.as_slice(), out)?;
         out.push(' ')?;
     }
     out.push('\n')?;
@@ -55,7 +56,7 @@ fn push_places(alloc: Global, expansion: &Expansion, out: &mut String) -> Mem<()
         if token.spaced {
             out.push_str("space ")?;
         }
-        push_escaped(token.text.as_slice(), out)?;
+        push_text(token.text.as_slice(), out)?;
         out.push('\n')?;
     }
     let counted = format!(in alloc; "{} tokens were put\n", expansion.counted)?;

@@ -1,12 +1,12 @@
 //! What preprocessing makes of small projects.
 
 use crate::faults::push_fault;
-use crate::kinds::name_of_kind;
+use crate::kinds::{name_of_kind, push_text};
 use crate::project::{Project, Shown};
 use ct_base::{Fail, Mem, OutOfMemory, Text, Token};
 use ct_outside::Finder;
 use ct_preproc::{SourceUnit, unit};
-use ct_show_rows::{Row, push_escaped};
+use ct_show_rows::Row;
 use std::alloc::Global;
 
 /// Appends what is to be shown of the unit of a row, or its refusal.
@@ -51,13 +51,6 @@ fn push_shown(alloc: Global, shown: Shown, unit: &SourceUnit, out: &mut String) 
     }
 }
 
-fn push_bytes(bytes: &[u8], out: &mut String) -> Mem<()> {
-    match str::from_utf8(bytes) {
-        Ok(text) => Ok(out.push_str(text)?),
-        Err(_) => push_escaped(bytes, out),
-    }
-}
-
 fn push_number(alloc: Global, number: u64, out: &mut String) -> Mem<()> {
     let text = format!(in alloc; "{number}")?;
     out.push_str(text.as_str())?;
@@ -66,7 +59,7 @@ fn push_number(alloc: Global, number: u64, out: &mut String) -> Mem<()> {
 
 fn push_tokens(tokens: &[Token], out: &mut String) -> Mem<()> {
     for token in tokens {
-        push_bytes(token.text.as_slice(), out)?;
+        push_text(token.text.as_slice(), out)?;
         out.push(' ')?;
     }
     Ok(())
@@ -88,7 +81,7 @@ fn push_places(alloc: Global, unit: &SourceUnit, out: &mut String) -> Mem<()> {
         let kind = name_of_kind(token.kind);
         let place = format!(in alloc; "{path}:{line} {kind} ")?;
         out.push_str(place.as_str())?;
-        push_bytes(token.text.as_slice(), out)?;
+        push_text(token.text.as_slice(), out)?;
         out.push('\n')?;
     }
     Ok(())
@@ -99,7 +92,7 @@ fn push_includes(alloc: Global, unit: &SourceUnit, out: &mut String) -> Mem<()> 
     for include in unit.includes.as_slice() {
         let place = format!(in alloc; "{}:{} ", include.depth, include.line)?;
         out.push_str(place.as_str())?;
-        push_bytes(include.name.as_slice(), out)?;
+        push_text(include.name.as_slice(), out)?;
         out.push_str(" is ")?;
         out.push_str(include.path.as_str())?;
         out.push('\n')?;
