@@ -9,7 +9,7 @@ ghost use Rattle.ct_syntax.specs.UnitViews.{view_item};
 use crate::items::read_item;
 use ct_base::{Fail, LimitKind, Mem, Out, Span, Token};
 use ct_parser_parts::{Built, passed};
-use ct_parser_state::Open;
+use ct_parser_state::ParserState;
 use ct_syntax::{Item, Tree};
 use std::alloc::Global;
 use thiserror::Error;
