@@ -1,7 +1,7 @@
 //! The steps of a row about macros.
 
 use crate::kinds::push_text;
-use crate::scan::{tokens_of, words_of};
+use crate::scan::tokens_of;
 use ct_base::{Fail, Mem, OutOfMemory, Token, TokenKind};
 use ct_directive::definition_in;
 use ct_macro::{Expansion, MacroFault, MacroKind, Macros, expand};
@@ -97,10 +97,12 @@ impl Steps {
 
     /// Appends what a text becomes.
     fn expand(&self, alloc: Global, text: &[u8], out: &mut String) -> Mem<()> {
-        let Some(words) = words_of(alloc, text)? else {
-            return Ok(out.push_str("an open comment\n")?);
+        let all = match tokens_of(alloc, text) {
+            Ok(all) => all,
+            Err(Fail::Fault(_)) => return Ok(out.push_str("an open comment\n")?),
+            Err(Fail::OutOfMemory) => return Err(OutOfMemory),
         };
-        match expand(alloc, &self.macros, words.as_slice(), self.room) {
+        match expand(alloc, &self.macros, all.as_slice(), self.room) {
             Ok(expansion) if self.places => push_places(alloc, &expansion, out),
             Ok(expansion) => push_tokens(expansion.tokens.as_slice(), out),
             Err(Fail::Fault(fault)) => push_fault(alloc, &fault, out),
