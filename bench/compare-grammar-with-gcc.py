@@ -4,7 +4,7 @@
 It makes 500 units: small C files that are right, some in which a typedef name stands as the name of an object or the other
 way round, and such files with one token left out, put twice, put in the place of another, put between two or moved, or with
 one place written as a rule of the list below has it. It asks `gcc -fsyntax-only -std=c11 -pedantic-errors` and the program
-`crates/ct_trees` whether each is a unit, and prints how many answers agree, how many units differ by each rule of the list
+`crates/ct_show` whether each is a unit, and prints how many answers agree, how many units differ by each rule of the list
 below, and each unit that differs by none of them, or is taken where a rule refuses it; the status is then 1. Of gcc's errors
 those count that speak of the grammar: the others, as of undeclared names and of types, are of what comes behind it. Without
 gcc it says so and ends with 0. It is no test of `rt ci`.
@@ -324,16 +324,16 @@ def compare(gcc, work, text, ours):
     return ("wrong" if not refused else "agree" if taken else "apart"), refused
 
 
-def by_trees(program, work, texts):
+def by_tables(program, work, texts):
     path = os.path.join(work, "cases.txt")
     write_cases(path, texts)
-    return answers(subprocess.run([program, path], capture_output=True, text=True, check=True).stdout)
+    return answers(subprocess.run([program, "show", "trees", path], capture_output=True, text=True, check=True).stdout)
 
 
 def write_cases(path, texts):
     with open(path, "w") as file:
         for number, text in enumerate(texts):
-            file.write(f"== {number}\nshow count\n{text}\n")
+            file.write(f"== {number}\n? show count\n {text}\n")
 
 
 def answers(printed):
@@ -364,11 +364,11 @@ def main():
     if gcc is None:
         print("no gcc is here: nothing was compared")
         return 0
-    folder = os.path.join(os.path.dirname(os.path.dirname(os.path.abspath(__file__))), "crates", "ct_trees")
+    folder = os.path.join(os.path.dirname(os.path.dirname(os.path.abspath(__file__))), "crates", "ct_show")
     subprocess.run(["rt", "run"], cwd=folder, check=True, stdin=subprocess.DEVNULL, capture_output=True)
     texts = units()
     with tempfile.TemporaryDirectory() as work:
-        ours = by_trees(os.path.join(folder, "out", "ct_trees"), work, texts)
+        ours = by_tables(os.path.join(folder, "out", "ct_show"), work, texts)
     return report(gcc, texts, ours)
 
 

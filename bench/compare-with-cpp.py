@@ -1,7 +1,7 @@
 #!/usr/bin/env python3
 """Compares what generated macros become with what the C preprocessor of the machine makes of them.
 
-It makes 1,000 texts of a few definitions and calls, lets `cpp -P` and the program of samples preprocess each, and
+It makes 1,000 texts of a few definitions and calls, lets `cpp -P` and `crates/ct_show` preprocess each, and
 compares the tokens, or that both refuse. It prints how many agree and each text that does not, and ends with status 1
 where one does not. Without cpp it says so and ends with 0. It is no test of `rt ci`.
 
@@ -97,13 +97,13 @@ def by_cpp(cpp, work, text):
     return None if run.returncode else TOKEN.findall(run.stdout)
 
 
-def by_samples(program, work, texts):
+def by_tables(program, work, texts):
     """The tokens of each text, or None where it is refused."""
     path = os.path.join(work, "cases.txt")
     with open(path, "w") as file:
         for number, text in enumerate(texts):
-            file.write(f"== {number}\n-- m.c\n{text}")
-    run = subprocess.run([program, path], capture_output=True, text=True, check=True)
+            file.write(f"== {number}\n{text}")
+    run = subprocess.run([program, "show", "units", path], capture_output=True, text=True, check=True)
     answers = [line.split(":", 1)[1].strip() for line in run.stdout.splitlines()]
     return [None if answer.startswith("m.c:") else TOKEN.findall(answer) for answer in answers]
 
@@ -114,14 +114,14 @@ def main():
         print("no cpp is here: nothing was compared")
         return 0
     home = os.path.dirname(os.path.dirname(os.path.abspath(__file__)))
-    folder = os.path.join(home, "crates", "ct_samples")
-    program = os.path.join(folder, "out", "ct_samples")
+    folder = os.path.join(home, "crates", "ct_show")
+    program = os.path.join(folder, "out", "ct_show")
     subprocess.run(["rt", "run"], cwd=folder, check=True, stdin=subprocess.DEVNULL, capture_output=True)
     rand = random.Random(20251201)
     texts = [case(rand) for _ in range(CASES)]
     agree = 0
     with tempfile.TemporaryDirectory() as work:
-        for text, ours in zip(texts, by_samples(program, work, texts)):
+        for text, ours in zip(texts, by_tables(program, work, texts)):
             theirs = by_cpp(cpp, work, text)
             if ours == theirs:
                 agree += 1

@@ -1,6 +1,6 @@
 #!/bin/bash
 # Makes units of some 10,000, 40,000 and 160,000 tokens (globals, prototypes, and functions with loops, calls of functions
-# before them, typedef names, enumeration constants, structs and switches), runs the program of syntax trees over each,
+# before them, typedef names, enumeration constants, structs and switches), runs `crates/ct_show` over each,
 # which parses it and prints its tree, and prints the seconds and how many times as long each takes as the one before. Each
 # printed text must have all tokens of its unit, and 4 times the tokens may take at most 5 times as long: else the status is
 # 1. It is a benchmark and no test.
@@ -8,9 +8,9 @@ set -eu
 home=$(CDPATH= cd -- "$(dirname -- "$0")/.." && pwd -P)
 work=$(mktemp -d)
 trap 'rm -rf "$work"' EXIT
-folder=$home/crates/ct_trees
+folder=$home/crates/ct_show
 (cd "$folder" && rt run </dev/null >/dev/null)
-program=$folder/out/ct_trees
+program=$folder/out/ct_show
 . "$home/bench/fastest.sh"
 
 # What stands at the head of a unit: 32 tokens.
@@ -22,7 +22,7 @@ part_tokens=147
 
 # A unit of so many functions, each with its globals and its prototype: 147 tokens for each.
 unit() {
-    printf '== %s functions\nshow text\n%s\n' "$1" "$head"
+    printf '== %s functions\n%s\n' "$1" "$head"
     awk -v n="$1" 'BEGIN {
         for (i = 0; i < n; i++) {
             before = i ? i - 1 : 0
@@ -46,9 +46,9 @@ status=0
 last=
 for functions in 68 272 1088; do
     unit "$functions" >"$work/unit"
-    seconds=$(fastest "$program" "$work/unit")
+    seconds=$(fastest "$program" show "printed text" "$work/unit")
     tokens=$((head_tokens + functions * part_tokens))
-    printed=$(grep -v '^== ' "$work/printed" | wc -w)
+    printed=$(sed "1s/^$functions functions: //" "$work/printed" | wc -w)
     if [ "$printed" -ne "$tokens" ]; then
         echo "of $tokens tokens $printed were printed"
         status=1

@@ -1,19 +1,19 @@
 #!/bin/bash
 # Makes texts of a quarter of a size and of the whole (1 MiB of plain text, 1 MiB of nested conditionals, 885,000 tokens put
-# by a macro that doubles), runs the program of samples over each, and prints the seconds and how many times as long the
+# by a macro that doubles), runs `crates/ct_show` over each, and prints the seconds and how many times as long the
 # whole takes as the quarter. 4 times the work may take at most 5 times as long: else the status is 1. It is a benchmark and
 # no test.
 set -eu
 home=$(CDPATH= cd -- "$(dirname -- "$0")/.." && pwd -P)
 work=$(mktemp -d)
 trap 'rm -rf "$work"' EXIT
-folder=$home/crates/ct_samples
+folder=$home/crates/ct_show
 (cd "$folder" && rt run </dev/null >/dev/null)
-program=$folder/out/ct_samples
+program=$folder/out/ct_show
 . "$home/bench/fastest.sh"
 
 sample() {
-    printf '== %s\nshow count\n-- m.c\n' "$1"
+    printf '== %s\n? show count\n' "$1"
 }
 
 # Lines of 64 bytes.
@@ -47,8 +47,8 @@ status=0
 for kind in plain conditionals doubling; do
     "$kind" 1 >"$work/quarter"
     "$kind" 4 >"$work/whole"
-    quarter=$(fastest "$program" "$work/quarter")
-    whole=$(fastest "$program" "$work/whole")
+    quarter=$(fastest "$program" show units "$work/quarter")
+    whole=$(fastest "$program" show units "$work/whole")
     cat "$work/printed"
     awk -v k="$kind" -v a="$quarter" -v b="$whole" 'BEGIN { printf "%s: %s s and %s s, %.1f times\n", k, a, b, b / a; exit b > 5 * a }' || status=1
 done
