@@ -2,8 +2,7 @@
 
 use ct_base::Mem;
 use ct_show_projects::{
-    budget_outcome, file_outcome, form_outcome, joined_outcome, pattern_outcome, project_outcome,
-    search_outcome,
+    budget_outcome, file_outcome, form_outcome, path_outcome, project_outcome, search_outcome,
 };
 use ct_show_rows::Row;
 use ct_show_values::{
@@ -20,8 +19,7 @@ pub fn outcome(alloc: Global, subject: &str, row: &Row, out: &mut String) -> Mem
         "YAML" => yaml_outcome(alloc, row, out)?,
         "settings" => setting_outcome(alloc, row, out)?,
         "reports" => report_outcome(alloc, row, out)?,
-        "patterns" => pattern_outcome(alloc, row, out)?,
-        "joined paths" => joined_outcome(alloc, row, out)?,
+        "paths" => path_outcome(alloc, row, out)?,
         "files" => file_outcome(alloc, row, out)?,
         "search" => search_outcome(alloc, row, out)?,
         "projects" | "test files" => project_outcome(alloc, row, out)?,

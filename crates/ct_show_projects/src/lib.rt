@@ -15,6 +15,6 @@ mod wide;
 
 pub use files::file_outcome;
 pub use forms::{budget_outcome, form_outcome};
-pub use paths::{joined_outcome, pattern_outcome};
+pub use paths::path_outcome;
 pub use runs::project_outcome;
 pub use searches::search_outcome;

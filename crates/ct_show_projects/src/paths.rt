@@ -13,22 +13,28 @@ fn quoted(row: &Row) -> Option<(&str, &str)> {
     Some((first, second))
 }
 
-/// Appends whether a pattern matches a folder. The name of the row has both in quotation marks.
-pub fn pattern_outcome(_alloc: Global, row: &Row, out: &mut String) -> Mem<()> {
+/// Appends whether a pattern matches a folder, or the path that a folder and what follows it give. The name of
+/// the row is `pattern "PATTERN", folder "FOLDER"` or `folder "FOLDER", path "PATH"`.
+pub fn path_outcome(alloc: Global, row: &Row, out: &mut String) -> Mem<()> {
     match quoted(row) {
-        Some((pattern, folder)) if matches(pattern, folder) => out.push_str("matches")?,
-        Some(_) => out.push_str("does not match")?,
-        None => out.push_str("no answer")?,
+        Some((pattern, folder)) if row.name.as_str().starts_with("pattern ") => {
+            push_match(pattern, folder, out)
+        }
+        Some((folder, rest)) => push_joined(alloc, folder, rest, out),
+        None => Ok(out.push_str("no answer")?),
+    }
+}
+
+fn push_match(pattern: &str, folder: &str, out: &mut String) -> Mem<()> {
+    if matches(pattern, folder) {
+        out.push_str("matches")?;
+    } else {
+        out.push_str("does not match")?;
     }
     Ok(())
 }
 
-/// Appends the path that the paths of a folder and of what follows it give. The name of the row has both in
-/// quotation marks.
-pub fn joined_outcome(alloc: Global, row: &Row, out: &mut String) -> Mem<()> {
-    let Some((folder, rest)) = quoted(row) else {
-        return Ok(out.push_str("no answer")?);
-    };
+fn push_joined(alloc: Global, folder: &str, rest: &str, out: &mut String) -> Mem<()> {
     match join_path(alloc, folder, rest)? {
         Some(path) => {
             out.push('"')?;
