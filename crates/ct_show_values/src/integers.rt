@@ -1,55 +1,54 @@
-//! Answers to questions.
+//! What integers of C come to.
 
 ghost use Rattle.std.specs.Prelude.{◌≡◌};
 ghost use Rattle.ct_ctype.specs.Operation as spec;
 
-use crate::layout::push_layout;
 use crate::names::{binary_named, fault_name, kind_named, name_of, unary_named};
-use ct_base::{BinaryOp, FaultKind, Mem};
+use ct_base::{BinaryOp, FaultKind, Mem, decimal};
 use ct_ctype::{IntKind, binary, common, convert, promote, unary};
+use ct_show_rows::{Row, push_escaped};
 use std::alloc::Global;
 
-/// Appends the answer to a question: `convert NUMBER KIND`, `promote KIND`, `common KIND KIND`,
-/// `binary OPERATOR KIND NUMBER NUMBER`, `unary OPERATOR KIND NUMBER` or `layout MEMBER .. ; MEMBER ..`,
-/// which asks for the last of several structs. It is `no answer` for any other line, for a number outside
-/// the kind of its operand, and for a struct with a member that has no size.
-pub fn push_answer(alloc: Global, line: &str, out: &mut String) -> Mem<()> {
-    let words: Vec<&str> = line.split_whitespace().collect(alloc)?;
+/// Appends the answer to the question that is the name of a row: `convert NUMBER KIND`, `promote KIND`,
+/// `common KIND KIND`, `binary OPERATOR KIND NUMBER NUMBER` or `unary OPERATOR KIND NUMBER`. It is `no answer`
+/// for any other name, and for a number outside the kind of its operand.
+pub fn integer_outcome(alloc: Global, row: &Row, out: &mut String) -> Mem<()> {
+    let words: Vec<&str> = row.name.as_str().split_whitespace().collect(alloc)?;
     match words.as_slice() {
         ["convert", number, kind] => push_converted(alloc, number, kind, out),
         ["promote", kind] => push_promoted(kind, out),
-        ["common", a, b] => push_common(a, b, out),
-        ["binary", op, kind, a, b] => push_binary(alloc, op, kind, a, b, out),
-        ["unary", op, kind, a] => push_unary(alloc, op, kind, a, out),
-        ["layout", members @ ..] => push_layout(alloc, members, out),
+        ["common", first, second] => push_common(first, second, out),
+        ["binary", op, kind, left, right] => push_binary(alloc, op, kind, left, right, out),
+        ["unary", op, kind, number] => push_unary(alloc, op, kind, number, out),
         _ => push_none(out),
     }
 }
 
-/// No answer.
-fn push_none(out: &mut String) -> Mem<()> {
-    out.push_str(" no answer")?;
-    Ok(())
-}
-
-fn push_kind(kind: Option<IntKind>, out: &mut String) -> Mem<()> {
-    let Some(kind) = kind else {
+/// Appends a text and behind it the decimal digits of the number that is the name of a row.
+pub fn digit_outcome(alloc: Global, row: &Row, out: &mut String) -> Mem<()> {
+    let Ok(number) = row.name.as_str().parse::<i128>() else {
         return push_none(out);
     };
-    out.push(' ')?;
-    out.push_str(name_of(kind))?;
+    let mut text = Vec::from_slice(alloc, "n = ".as_bytes())?;
+    decimal(alloc, number, &mut text)?;
+    push_escaped(text.as_slice(), out)
+}
+
+/// No answer.
+fn push_none(out: &mut String) -> Mem<()> {
+    out.push_str("no answer")?;
     Ok(())
 }
 
 fn push_promoted(kind: &str, out: &mut String) -> Mem<()> {
     match kind_named(kind) {
-        Some(kind) => push_kind(Some(promote(kind)), out),
+        Some(kind) => Ok(out.push_str(name_of(promote(kind)))?),
         None => push_none(out),
     }
 }
 
 fn push_number(alloc: Global, number: i128, out: &mut String) -> Mem<()> {
-    let text = format!(in alloc; " {number}")?;
+    let text = format!(in alloc; "{number}")?;
     out.push_str(text.as_str())?;
     Ok(())
 }
@@ -57,11 +56,7 @@ fn push_number(alloc: Global, number: i128, out: &mut String) -> Mem<()> {
 fn push_result(alloc: Global, found: Result<i128, FaultKind>, out: &mut String) -> Mem<()> {
     match found {
         Ok(number) => push_number(alloc, number, out),
-        Err(fault) => {
-            out.push(' ')?;
-            out.push_str(fault_name(fault))?;
-            Ok(())
-        }
+        Err(fault) => Ok(out.push_str(fault_name(fault))?),
     }
 }
 
@@ -72,9 +67,9 @@ fn push_converted(alloc: Global, number: &str, kind: &str, out: &mut String) -> 
     }
 }
 
-fn push_common(a: &str, b: &str, out: &mut String) -> Mem<()> {
-    match (kind_named(a), kind_named(b)) {
-        (Some(a), Some(b)) => push_kind(Some(common(a, b)), out),
+fn push_common(first: &str, second: &str, out: &mut String) -> Mem<()> {
+    match (kind_named(first), kind_named(second)) {
+        (Some(first), Some(second)) => Ok(out.push_str(name_of(common(first, second)))?),
         _ => push_none(out),
     }
 }
