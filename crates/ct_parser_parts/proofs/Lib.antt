@@ -1,4 +1,2 @@
 pub mod Taking
-pub mod Nodes
 pub mod Rules
-pub mod Wholes

@@ -1,5 +1,6 @@
 -- Lists with one more at their end, and nodes with lists.
-use Rattle.std.proofs.Common.{◌≡◌, Bool, map, option_map, List, [], ◌∷◌, ◌++◌, Option, Some, None, refl, sym, ap, ◌∙◌}
+use Rattle.std.proofs.Common.{◌≡◌, Bool, true, false, map, option_map, List, [], ◌∷◌, ◌++◌, Option, Some, None, refl, sym, ap, ◌∙◌, Vec, Box, Global}
+use Rattle.ct_base.specs.declared.lexical.Span.{Span}
 use Rattle.ct_syntax.specs.Words.{Text}
 use Rattle.ct_syntax.specs.Trees as t
 use Rattle.ct_syntax.specs.Views.{view, view_spec, view_declarator, expressions_of, specs_of}
@@ -15,13 +16,15 @@ use Rattle.ct_syntax.specs.declared.expressions.Declarator.{Declarator}
 use Rattle.ct_syntax.specs.declared.declarations.InitialiserItem.{InitialiserItem}
 use Rattle.ct_syntax.specs.declared.declarations.InitDeclarator.{InitDeclarator}
 use Rattle.ct_syntax.specs.declared.statements.Item.{Item}
+use Rattle.ct_syntax.specs.declared.statements.Statement.{Statement}
+use Rattle.ct_syntax.specs.declared.statements.Statement.TheVariants as u
 use Rattle.ct_syntax.specs.declared.statements.Branch.{Branch}
 use Rattle.ct_syntax.specs.declared.statements.BlockItem.{BlockItem}
 use Rattle.ct_syntax.specs.declared.statements.BlockItem.TheVariants as b
 use Rattle.ct_syntax.proofs.Views.{view_Call, view_SizeofType, view_Cast, view_StructList, view_EnumList, view_Array, view_Function}
 use Rattle.ct_syntax.proofs.UnitViews.{view_List, view_Block, view_If, view_Switch}
-use Rattle.ct_grammar_machine.specs.Algebra.{Aimed, Tree, designator_of, expressions_then, specs_then, members_then, enumerators_then, declarators_then, parameters_then, inits_then, branches_then, body_then}
-use Rattle.ct_parser_parts.specs.Parts.{Names, option_pair}
+use Rattle.ct_grammar_machine.specs.Algebra.{Aimed, Tree, designator_of, other_of, expressions_then, specs_then, members_then, enumerators_then, declarators_then, parameters_then, inits_then, branches_then, body_then}
+use Rattle.ct_parser_parts.specs.Parts.{Names, option_pair, kept}
 use Rattle.ct_parser_parts.specs.Views.{names_of}
 use Rattle.ct_parser_parts.specs.declared.parts.Declared.{Declared}
 
@@ -97,23 +100,130 @@ inits_last (y ∷ xs) x = ap (λ z. view_init_declarator y ∷ z) (inits_last xs
 abbrev with_item : t.InitialiserItems × (Aimed Tree × t.Initialiser) → t.InitialiserItems
 with_item p = inits_then p.0 (t.item (designator_of p.1.0) p.1.1 t.no_item)
 
-pub aimed_some : (is : t.InitialiserItems) (o : Option (Aimed Tree)) (g : t.Designator) (v : t.Initialiser) → Some g ≡ option_map designator_of o → option_map with_item (option_pair (Some is) (option_pair o (Some v))) ≡ Some (inits_then is (t.item g v t.no_item))
-aimed_some is None g v e = absurd cc
-aimed_some is (Some aim) g v e = ap (option_map (λ d. inits_then is (t.item d v t.no_item))) (sym e)
+module _ {X Y Z : Type 0} (f : X → t.InitialiserItems) (g : Y → t.Designator) (h : Z → t.Initialiser) where
+  pub aimed_none : (a : Option X) (d : Option Y) (b : Option Z) (o : Option (Aimed Tree)) → None ≡ option_pair a (option_pair d b) → option_map g d ≡ option_map designator_of o → option_map with_item (option_pair (option_map f a) (option_pair o (option_map h b))) ≡ None
+  aimed_none None d b o e k = refl
+  aimed_none (Some x) None b None e k = refl
+  aimed_none (Some x) None b (Some aim) e k = absurd cc
+  aimed_none (Some x) (Some y) None None e k = refl
+  aimed_none (Some x) (Some y) None (Some aim) e k = refl
+  aimed_none (Some x) (Some y) (Some z) o e k = absurd cc
 
-pub aimed_none : (is : Option t.InitialiserItems) (o : Option (Aimed Tree)) (v : Option t.Initialiser) → None ≡ option_map designator_of o → option_pair is (option_pair o v) ≡ None
-aimed_none None o v e = refl
-aimed_none (Some is) None v e = refl
-aimed_none (Some is) (Some aim) v e = absurd cc
+  pub aimed_some : (a : Option X) (d : Option Y) (b : Option Z) (o : Option (Aimed Tree)) (p : X × (Y × Z)) → Some p ≡ option_pair a (option_pair d b) → option_map g d ≡ option_map designator_of o → option_map with_item (option_pair (option_map f a) (option_pair o (option_map h b))) ≡ Some (inits_then (f p.0) (t.item (g p.1.0) (h p.1.1) t.no_item))
+  aimed_some None d b o p e k = absurd cc
+  aimed_some (Some x) None b o p e k = absurd cc
+  aimed_some (Some x) (Some y) None o p e k = absurd cc
+  aimed_some (Some x) (Some y) (Some z) None p e k = absurd cc
+  aimed_some (Some x) (Some y) (Some z) (Some aim) p e k = cc
 
-pub pair_none : {A B : Type 0} → (o : Option A) → option_pair {A = A} {B = B} o None ≡ None
-pair_none None = refl
-pair_none (Some x) = refl
+-- ---- what is seen of parts that are built, or of none where one of them is not
 
-pub ruleset designated = (initialisers_last, aimed_some, aimed_none, pair_none)
+module _ {A A' : Type 0} (f : A → A') where
+  pub map_none : (w : Bool) (a : Option A) → None ≡ kept w a → kept w (option_map f a) ≡ None
+  map_none false a e = refl
+  map_none true a e = ap (option_map f) (sym e)
+
+  pub map_some : (w : Bool) (a : Option A) (x : A) → Some x ≡ kept w a → kept w (option_map f a) ≡ Some (f x)
+  map_some false a x e = absurd cc
+  map_some true a x e = ap (option_map f) (sym e)
+
+module _ {A A' B B' : Type 0} (f : A → A') (g : B → B') where
+  abbrev on_both : A × B → A' × B'
+  on_both p = (f p.0, g p.1)
+
+  pair_map : (a : Option A) (b : Option B) → option_pair (option_map f a) (option_map g b) ≡ option_map on_both (option_pair a b)
+  pair_map None b = refl
+  pair_map (Some x) None = refl
+  pair_map (Some x) (Some y) = refl
+
+  pub pair_empty : (a : Option A) (b : Option B) → None ≡ option_pair a b → option_pair (option_map f a) (option_map g b) ≡ None
+  pair_empty a b e = pair_map a b ∙ ap (option_map on_both) (sym e)
+
+  pub pair_some : (a : Option A) (b : Option B) (p : A × B) → Some p ≡ option_pair a b → option_pair (option_map f a) (option_map g b) ≡ Some (f p.0, g p.1)
+  pair_some a b p e = pair_map a b ∙ ap (option_map on_both) (sym e)
+
+  pub two_none : (w : Bool) (a : Option A) (b : Option B) → None ≡ kept w (option_pair a b) → kept w (option_pair (option_map f a) (option_map g b)) ≡ None
+  two_none w a b e = ap (kept w) (pair_map a b) ∙ map_none on_both w (option_pair a b) e
+
+  pub two_some : (w : Bool) (a : Option A) (b : Option B) (p : A × B) → Some p ≡ kept w (option_pair a b) → kept w (option_pair (option_map f a) (option_map g b)) ≡ Some (f p.0, g p.1)
+  two_some w a b p e = ap (kept w) (pair_map a b) ∙ map_some on_both w (option_pair a b) p e
+
+  -- the second of them is itself what is kept of a construct
+  inside_map : (w : Bool) (b : Option B) → option_map (λ z. z) (kept w (option_map g b)) ≡ option_map g (kept w b)
+  inside_map false b = refl
+  inside_map true None = refl
+  inside_map true (Some y) = refl
+
+  pub inside_none : (w : Bool) (a : Option A) (b : Option B) → None ≡ option_pair a (kept w b) → option_pair (option_map f a) (option_map (λ z. z) (kept w (option_map g b))) ≡ None
+  inside_none w a b e = ap (option_pair (option_map f a)) (inside_map w b) ∙ pair_empty a (kept w b) e
+
+  pub inside_some : (w : Bool) (a : Option A) (b : Option B) (p : A × B) → Some p ≡ option_pair a (kept w b) → option_pair (option_map f a) (option_map (λ z. z) (kept w (option_map g b))) ≡ Some (f p.0, g p.1)
+  inside_some w a b p e = ap (option_pair (option_map f a)) (inside_map w b) ∙ pair_some a (kept w b) p e
+
+module _ {A A' B B' C C' : Type 0} (f : A → A') (g : B → B') (h : C → C') where
+  pub three_none : (w : Bool) (a : Option A) (b : Option B) (c : Option C) → None ≡ kept w (option_pair (option_pair a b) c) → kept w (option_pair (option_pair (option_map f a) (option_map g b)) (option_map h c)) ≡ None
+  three_none w a b c e = ap (λ z. kept w (option_pair z (option_map h c))) (pair_map f g a b) ∙ two_none (on_both f g) h w (option_pair a b) c e
+
+  pub three_some : (w : Bool) (a : Option A) (b : Option B) (c : Option C) (p : (A × B) × C) → Some p ≡ kept w (option_pair (option_pair a b) c) → kept w (option_pair (option_pair (option_map f a) (option_map g b)) (option_map h c)) ≡ Some ((f p.0.0, g p.0.1), h p.1)
+  three_some w a b c p e = ap (λ z. kept w (option_pair z (option_map h c))) (pair_map f g a b) ∙ two_some (on_both f g) h w (option_pair a b) c p e
+
+  pub further_none : (a : Option A) (b : Option B) (c : Option C) → None ≡ option_pair a (option_pair b c) → option_pair (option_map f a) (option_pair (option_map g b) (option_map h c)) ≡ None
+  further_none a b c e = ap (option_pair (option_map f a)) (pair_map g h b c) ∙ pair_empty f (on_both g h) a (option_pair b c) e
+
+  pub further_some : (a : Option A) (b : Option B) (c : Option C) (p : A × (B × C)) → Some p ≡ option_pair a (option_pair b c) → option_pair (option_map f a) (option_pair (option_map g b) (option_map h c)) ≡ Some (f p.0, (g p.1.0, h p.1.1))
+  further_some a b c p e = ap (option_pair (option_map f a)) (pair_map g h b c) ∙ pair_some f (on_both g h) a (option_pair b c) p e
+
+module _ {A A' B B' C C' D D' : Type 0} (f : A → A') (g : B → B') (h : C → C') (k : D → D') where
+  pub four_none : (w : Bool) (a : Option A) (b : Option B) (c : Option C) (d : Option D) → None ≡ kept w (option_pair (option_pair (option_pair a b) c) d) → kept w (option_pair (option_pair (option_pair (option_map f a) (option_map g b)) (option_map h c)) (option_map k d)) ≡ None
+  four_none w a b c d e = ap (λ z. kept w (option_pair (option_pair z (option_map h c)) (option_map k d))) (pair_map f g a b) ∙ three_none (on_both f g) h k w (option_pair a b) c d e
+
+  pub four_some : (w : Bool) (a : Option A) (b : Option B) (c : Option C) (d : Option D) (p : ((A × B) × C) × D) → Some p ≡ kept w (option_pair (option_pair (option_pair a b) c) d) → kept w (option_pair (option_pair (option_pair (option_map f a) (option_map g b)) (option_map h c)) (option_map k d)) ≡ Some (((f p.0.0.0, g p.0.0.1), h p.0.1), k p.1)
+  four_some w a b c d p e = ap (λ z. kept w (option_pair (option_pair z (option_map h c)) (option_map k d))) (pair_map f g a b) ∙ three_some (on_both f g) h k w (option_pair a b) c d p e
+
+  pub defined_none : (w : Bool) (a : Option A) (b : Option B) (c : Option C) (d : Option D) → None ≡ option_pair a (option_pair (option_pair b c) (kept w d)) → option_pair (option_map f a) (option_pair (option_pair (option_map g b) (option_map h c)) (option_map (λ z. z) (kept w (option_map k d)))) ≡ None
+  defined_none w a b c d e = ap (λ z. option_pair (option_map f a) (option_pair z (option_map (λ y. y) (kept w (option_map k d))))) (pair_map g h b c) ∙ ap (λ z. option_pair (option_map f a) (option_pair (option_map (on_both g h) (option_pair b c)) z)) (inside_map g k w d) ∙ further_none f (on_both g h) k a (option_pair b c) (kept w d) e
+
+  pub defined_some : (w : Bool) (a : Option A) (b : Option B) (c : Option C) (d : Option D) (p : A × ((B × C) × D)) → Some p ≡ option_pair a (option_pair (option_pair b c) (kept w d)) → option_pair (option_map f a) (option_pair (option_pair (option_map g b) (option_map h c)) (option_map (λ z. z) (kept w (option_map k d)))) ≡ Some (f p.0, ((g p.1.0.0, h p.1.0.1), k p.1.1))
+  defined_some w a b c d p e = ap (λ z. option_pair (option_map f a) (option_pair z (option_map (λ y. y) (kept w (option_map k d))))) (pair_map g h b c) ∙ ap (λ z. option_pair (option_map f a) (option_pair (option_map (on_both g h) (option_pair b c)) z)) (inside_map g k w d) ∙ further_some f (on_both g h) k a (option_pair b c) (kept w d) p e
+
+pub leaf_none : (w : Bool) (x : Expr) → None ≡ kept w (Some x) → kept w (Some (view x)) ≡ None
+leaf_none w x e = map_none view w (Some x) e
+
+pub leaf_some : (w : Bool) (x y : Expr) → Some y ≡ kept w (Some x) → kept w (Some (view x)) ≡ Some (view y)
+leaf_some w x y e = map_some view w (Some x) y e
+
+pub simple_none : (w : Bool) (x : Statement) → None ≡ kept w (Some x) → kept w (Some (view_statement x)) ≡ None
+simple_none w x e = map_none view_statement w (Some x) e
+
+pub simple_some : (w : Bool) (x y : Statement) → Some y ≡ kept w (Some x) → kept w (Some (view_statement x)) ≡ Some (view_statement y)
+simple_some w x y e = map_some view_statement w (Some x) y e
+
+pub ruleset leaves = (leaf_none, leaf_some, simple_none, simple_some)
+
+pub ruleset one = (map_none, map_some)
+
+pub ruleset two = (two_none, two_some)
+
+pub ruleset three = (three_none, three_some)
+
+pub ruleset four = (four_none, four_some)
+
+pub ruleset one_more = (pair_empty, pair_some)
+
+pub ruleset two_more = (further_none, further_some)
+
+pub ruleset one_inside = (inside_none, inside_some)
+
+pub ruleset definition = (defined_none, defined_some)
+
+pub ruleset designated = (initialisers_last, aimed_some, aimed_none)
 
 pub ruleset tree_views = (view_Call, view_SizeofType, view_Cast, view_StructList, view_EnumList)
 
 pub ruleset declarator_views = (view_Array, view_Function)
 
-pub ruleset unit_views = (view_List, view_Block, view_If, view_Switch)
+pub view_if : (at : Span) (bs : Vec Branch Global) (o : Option (Box Statement Global)) → view_statement (u.If at bs o) ≡ t.If (branches_of bs.items) (other_of (option_map (λ b. view_statement b.value) o))
+view_if at bs None = view_If at bs None
+view_if at bs (Some s) = view_If at bs (Some s)
+
+pub ruleset unit_views = (view_List, view_Block, view_if, view_Switch)

@@ -205,6 +205,14 @@ wrapped plain i = record { nameless = false; name = i.name; plain = plain; own =
 abbrev pub is_void : SpecInfo → Bool
 is_void i = is_one_void i.words && (i.wholes == 0)
 
+-- one declarator more, with an initialiser or without
+abbrev pub started : Built (List t.InitDeclarator) → Built t.Declarator → Built (Option t.Initialiser) → Built (List t.InitDeclarator)
+started x y v = over (λ p. p.0 ++ record { declarator = p.1.0; start = p.1.1 } ∷ []) (pair x (pair y v))
+
+-- an `if`, with an `else` or without
+abbrev pub branched : Built t.Branches → Built (Option t.Statement) → Built t.Statement
+branched x y = one in_statement (λ p. t.If p.0 (other_of p.1)) (pair x y)
+
 abbrev pub parts_built : Algebra Part
 parts_built = record {
   name = λ u. make expr (fit (in_expression flat) (t.Name u)) 16;

@@ -15,6 +15,7 @@ use Rattle.ct_syntax.specs.declared.statements.Branch.{Branch}
 use Rattle.ct_syntax.specs.declared.statements.BlockItem.{BlockItem}
 use Rattle.ct_syntax.specs.declared.statements.Item.{Item}
 use Rattle.std.specs.declared.vec.Vec.{Vec}
+use Rattle.std.specs.declared.boxed.Box.{Box}
 use Rattle.std.specs.declared.alloc.Global.{Global}
 use Rattle.ct_grammar_machine.specs.Algebra.{Sort, expr, exprs, specs, members, enumerators, declarators, decl, parameters, init, inits, init_declarators, declaration, for_start, stmt, branches, body, items, Tree}
 use Rattle.ct_grammar_machine.specs.Algebra as a
@@ -35,33 +36,36 @@ use Rattle.ct_parser_parts.specs.declared.parts.Aimed.TheVariants as aim
 abbrev pub built : {A B : Type 0} → (A → B) → Option A → Depth → p.Built B
 built f tree reach = record { tree = option_map f tree; reach = reach }
 
+abbrev pub boxed : {A B : Type 0} → (A → B) → Built (Box A Global) → p.Built B
+boxed f x = built (λ b. f b.value) x.tree x.reach
+
 abbrev pub names_of : List Declared → Names
 names_of [] = []
 names_of (d ∷ ds) = (d.name, d.is_type) ∷ names_of ds
 
 abbrev pub expr_of : ExprPart → Part expr
-expr_of x = record { built = built view x.tree x.reach; info = x.level }
+expr_of x = record { built = boxed view x.built; info = x.level }
 
 abbrev pub exprs_of : Built (Vec Expr Global) → Part exprs
 exprs_of x = record { built = built (λ v. expressions_of v.items) x.tree x.reach; info = tt }
 
 abbrev pub specs_part : SpecsPart → Part specs
-specs_part x = record { built = built (λ v. specs_of v.items) x.tree x.reach; info = record { words = x.words; wholes = x.wholes; typedef = x.typedef; names = names_of x.names } }
+specs_part x = record { built = built (λ v. specs_of v.items) x.built.tree x.built.reach; info = record { words = x.words; wholes = x.wholes; typedef = x.typedef; names = names_of x.names } }
 
 abbrev pub members_part : MembersPart → Part members
-members_part x = record { built = built (λ v. members_of v.items) x.tree x.reach; info = names_of x.names }
+members_part x = record { built = built (λ v. members_of v.items) x.built.tree x.built.reach; info = names_of x.names }
 
 abbrev pub enumerators_part : EnumeratorsPart → Part enumerators
-enumerators_part x = record { built = built (λ v. enumerators_of v.items) x.tree x.reach; info = names_of x.names }
+enumerators_part x = record { built = built (λ v. enumerators_of v.items) x.built.tree x.built.reach; info = names_of x.names }
 
 abbrev pub declarators_part : Built (Vec Declarator Global) → Part declarators
 declarators_part x = record { built = built (λ v. declarators_of v.items) x.tree x.reach; info = tt }
 
 abbrev pub declarator_part : DeclaratorPart → Part decl
-declarator_part x = record { built = built view_declarator x.tree x.reach; info = record { nameless = x.nameless; name = x.name; plain = x.plain; own = names_of x.own } }
+declarator_part x = record { built = boxed view_declarator x.built; info = record { nameless = x.nameless; name = x.name; plain = x.plain; own = names_of x.own } }
 
 abbrev pub parameters_part : ParametersPart → Part parameters
-parameters_part x = record { built = built (λ v. parameters_of v.items) x.tree x.reach; info = record { empty = x.empty; only_void = x.only_void; names = names_of x.names } }
+parameters_part x = record { built = built (λ v. parameters_of v.items) x.built.tree x.built.reach; info = record { empty = x.empty; only_void = x.only_void; names = names_of x.names } }
 
 abbrev pub initialiser_part : Built Initialiser → Part init
 initialiser_part x = record { built = built view_initialiser x.tree x.reach; info = tt }
@@ -78,8 +82,8 @@ declaration_part x = record { built = built view_declaration x.tree x.reach; inf
 abbrev pub for_start_part : Built ForStart → Part for_start
 for_start_part x = record { built = built view_for_start x.tree x.reach; info = tt }
 
-abbrev pub statement_part : Built Statement → Part stmt
-statement_part x = record { built = built view_statement x.tree x.reach; info = tt }
+abbrev pub statement_part : Built (Box Statement Global) → Part stmt
+statement_part x = record { built = boxed view_statement x; info = tt }
 
 abbrev pub branches_part : Built (Vec Branch Global) → Part branches
 branches_part x = record { built = built (λ v. branches_of v.items) x.tree x.reach; info = tt }

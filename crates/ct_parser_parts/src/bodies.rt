@@ -4,7 +4,8 @@ ghost use Rattle.std.specs.Prelude.{◌≡◌, IfOk};
 ghost use Rattle.ct_parser_parts.specs.Parts.{parts_built};
 ghost use Rattle.ct_parser_parts.specs.Views.{expr_of, specs_part, declarator_part, declaration_part, statement_part, body_part, items_part};
 
-use crate::{Built, DeclaratorPart, ExprPart, Nest, SpecsPart, is_within, joined, nested};
+use crate::operands::{enclosed, pair};
+use crate::{Built, DeclaratorPart, ExprPart, Nest, SpecsPart};
 use ct_base::{Items, Mem, Span};
 use ct_syntax::{Block, BlockItem, Declaration, Item, Statement};
 use std::alloc::Global;
@@ -20,7 +21,7 @@ pub fn no_body(alloc: Global) -> Built<Vec<BlockItem>>
 }
 
 /// One `case` more.
-#[tactic(auto, using(crate::proofs::Rules::body_last))]
+#[tactic(auto, using(crate::proofs::Rules::body_last, crate::proofs::Rules::one_more))]
 pub fn push_case(
     before: Built<Vec<BlockItem>>,
     span: Span,
@@ -28,16 +29,11 @@ pub fn push_case(
 ) -> Mem<Built<Vec<BlockItem>>>
     ensures { IfOk result (λ p. body_part p ≡ parts_built.push_case (body_part before) (expr_of value)) }
 {
-    let list = before.tree;
-    let x = value.tree;
-    let reach = joined(before.reach, &value.reach)?;
-    let Some(mut list) = list else {
+    let Built { tree, reach } = pair(before, value.built)?;
+    let Some((mut list, value)) = tree else {
         return Ok(Built { tree: None, reach });
     };
-    let Some(x) = x else {
-        return Ok(Built { tree: None, reach });
-    };
-    list.push(BlockItem::Case(span, x))?;
+    list.push(BlockItem::Case(span, Box::into_inner(value)))?;
     Ok(Built {
         tree: Some(list),
         reach,
@@ -49,38 +45,30 @@ pub fn push_case(
 pub fn push_default(before: Built<Vec<BlockItem>>, span: Span) -> Mem<Built<Vec<BlockItem>>>
     ensures { IfOk result (λ p. body_part p ≡ parts_built.push_default (body_part before)) }
 {
-    let list = before.tree;
-    let Some(mut list) = list else {
-        return Ok(Built {
-            tree: None,
-            reach: before.reach,
-        });
+    let Built { tree, reach } = before;
+    let Some(mut list) = tree else {
+        return Ok(Built { tree: None, reach });
     };
     list.push(BlockItem::Default(span))?;
     Ok(Built {
         tree: Some(list),
-        reach: before.reach,
+        reach,
     })
 }
 
 /// One declaration more.
-#[tactic(auto, using(crate::proofs::Rules::body_last))]
+#[tactic(auto, using(crate::proofs::Rules::body_last, crate::proofs::Rules::one_more))]
 pub fn push_declared(
     before: Built<Vec<BlockItem>>,
     declaration: Built<Declaration>,
 ) -> Mem<Built<Vec<BlockItem>>>
     ensures { IfOk result (λ p. body_part p ≡ parts_built.push_declared (body_part before) (declaration_part declaration)) }
 {
-    let list = before.tree;
-    let d = declaration.tree;
-    let reach = joined(before.reach, &declaration.reach)?;
-    let Some(mut list) = list else {
+    let Built { tree, reach } = pair(before, declaration)?;
+    let Some((mut list, declaration)) = tree else {
         return Ok(Built { tree: None, reach });
     };
-    let Some(d) = d else {
-        return Ok(Built { tree: None, reach });
-    };
-    list.push(BlockItem::Declaration(d))?;
+    list.push(BlockItem::Declaration(declaration))?;
     Ok(Built {
         tree: Some(list),
         reach,
@@ -88,23 +76,18 @@ pub fn push_declared(
 }
 
 /// One statement more.
-#[tactic(auto, using(crate::proofs::Rules::body_last))]
+#[tactic(auto, using(crate::proofs::Rules::body_last, crate::proofs::Rules::one_more))]
 pub fn push_stated(
     before: Built<Vec<BlockItem>>,
-    statement: Built<Statement>,
+    statement: Built<Box<Statement>>,
 ) -> Mem<Built<Vec<BlockItem>>>
     ensures { IfOk result (λ p. body_part p ≡ parts_built.push_stated (body_part before) (statement_part statement)) }
 {
-    let list = before.tree;
-    let s = statement.tree;
-    let reach = joined(before.reach, &statement.reach)?;
-    let Some(mut list) = list else {
+    let Built { tree, reach } = pair(before, statement)?;
+    let Some((mut list, statement)) = tree else {
         return Ok(Built { tree: None, reach });
     };
-    let Some(s) = s else {
-        return Ok(Built { tree: None, reach });
-    };
-    list.push(BlockItem::Statement(s))?;
+    list.push(BlockItem::Statement(Box::into_inner(statement)))?;
     Ok(Built {
         tree: Some(list),
         reach,
@@ -122,7 +105,7 @@ pub fn no_items(alloc: Global) -> Built<Vec<Item>>
 }
 
 /// One definition more.
-#[tactic(auto, using(crate::proofs::Rules::items_last))]
+#[tactic(auto, using(crate::proofs::Rules::items_last, crate::proofs::Rules::definition))]
 pub fn push_definition(
     alloc: Global,
     before: Built<Vec<Item>>,
@@ -133,31 +116,15 @@ pub fn push_definition(
 ) -> Mem<Built<Vec<Item>>>
     ensures { IfOk result (λ p. items_part p ≡ parts_built.push_definition (items_part before) (specs_part specs) (declarator_part declarator) (body_part body)) }
 {
-    let list = before.tree;
-    let us = specs.tree;
-    let d = declarator.tree;
-    let items = body.tree;
-    let fourth = nested(alloc, Nest::Statement, &body.reach)?;
-    let is_shallow = is_within(&fourth);
-    let second = joined(specs.reach, &declarator.reach)?;
-    let second = joined(second, &fourth)?;
-    let reach = joined(before.reach, &second)?;
-    if !is_shallow {
-        return Ok(Built { tree: None, reach });
-    }
-    let Some(mut list) = list else {
+    let span = specs.span;
+    let head = pair(specs.built, declarator.built)?;
+    let body = enclosed(alloc, Nest::Statement, body)?;
+    let Built { tree, reach } = pair(before, pair(head, body)?)?;
+    let Some((mut list, ((specs, declarator), items))) = tree else {
         return Ok(Built { tree: None, reach });
     };
-    let Some(us) = us else {
-        return Ok(Built { tree: None, reach });
-    };
-    let Some(declarator) = d else {
-        return Ok(Built { tree: None, reach });
-    };
-    let Some(items) = items else {
-        return Ok(Built { tree: None, reach });
-    };
-    list.push(Item::Function(specs.span, us, declarator, Block { span: brace, items }))?;
+    let body = Block { span: brace, items };
+    list.push(Item::Function(span, specs, Box::into_inner(declarator), body))?;
     Ok(Built {
         tree: Some(list),
         reach,
@@ -165,23 +132,18 @@ pub fn push_definition(
 }
 
 /// One declaration at file scope more.
-#[tactic(auto, using(crate::proofs::Rules::items_last))]
+#[tactic(auto, using(crate::proofs::Rules::items_last, crate::proofs::Rules::one_more))]
 pub fn push_outside(
     before: Built<Vec<Item>>,
     declaration: Built<Declaration>,
 ) -> Mem<Built<Vec<Item>>>
     ensures { IfOk result (λ p. items_part p ≡ parts_built.push_outside (items_part before) (declaration_part declaration)) }
 {
-    let list = before.tree;
-    let d = declaration.tree;
-    let reach = joined(before.reach, &declaration.reach)?;
-    let Some(mut list) = list else {
+    let Built { tree, reach } = pair(before, declaration)?;
+    let Some((mut list, declaration)) = tree else {
         return Ok(Built { tree: None, reach });
     };
-    let Some(d) = d else {
-        return Ok(Built { tree: None, reach });
-    };
-    list.push(Item::Declaration(d))?;
+    list.push(Item::Declaration(declaration))?;
     Ok(Built {
         tree: Some(list),
         reach,
@@ -193,16 +155,13 @@ pub fn push_outside(
 pub fn push_lone(before: Built<Vec<Item>>, span: Span) -> Mem<Built<Vec<Item>>>
     ensures { IfOk result (λ p. items_part p ≡ parts_built.push_lone (items_part before)) }
 {
-    let list = before.tree;
-    let Some(mut list) = list else {
-        return Ok(Built {
-            tree: None,
-            reach: before.reach,
-        });
+    let Built { tree, reach } = before;
+    let Some(mut list) = tree else {
+        return Ok(Built { tree: None, reach });
     };
     list.push(Item::Empty(span))?;
     Ok(Built {
         tree: Some(list),
-        reach: before.reach,
+        reach,
     })
 }

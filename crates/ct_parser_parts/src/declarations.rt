@@ -1,12 +1,13 @@
 //! Initialisers and declarations from their parts.
 
 ghost use Rattle.std.specs.Prelude.{◌≡◌, IfOk, None, Some, option_map};
-ghost use Rattle.ct_parser_parts.specs.Parts.{parts_built, aimed};
+ghost use Rattle.ct_parser_parts.specs.Parts.{parts_built, aimed, started};
 ghost use Rattle.ct_grammar_machine.specs.Algebra.{designator_of};
-ghost use Rattle.ct_syntax.specs.UnitViews.{view_designator};
-ghost use Rattle.ct_parser_parts.specs.Views.{expr_of, specs_part, declarator_part, initialiser_part, initialisers_part, init_declarators_part, declaration_part, aimed_part};
+ghost use Rattle.ct_syntax.specs.UnitViews.{view_designator, view_initialiser};
+ghost use Rattle.ct_parser_parts.specs.Views.{built, expr_of, specs_part, declarator_part, initialiser_part, initialisers_part, init_declarators_part, declaration_part, aimed_part};
 
-use crate::{Aimed, Built, DeclaratorPart, ExprPart, Nest, SpecsPart, is_within, joined, nested};
+use crate::operands::{enclosed, given, pair};
+use crate::{Aimed, Built, DeclaratorPart, ExprPart, Nest, SpecsPart};
 use ct_base::{Bytes, Items, Mem, Span};
 use ct_syntax::{Declaration, Designator, InitDeclarator, Initialiser, InitialiserItem};
 use std::alloc::Global;
@@ -15,21 +16,18 @@ use std::alloc::Global;
 pub fn value_init(value: ExprPart) -> Mem<Built<Initialiser>>
     ensures { IfOk result (λ p. initialiser_part p ≡ parts_built.value_init (expr_of value)) }
 {
-    let x = value.tree;
-    let Some(x) = x else {
-        return Ok(Built {
-            tree: None,
-            reach: value.reach,
-        });
+    let Built { tree, reach } = value.built;
+    let Some(tree) = tree else {
+        return Ok(Built { tree: None, reach });
     };
     Ok(Built {
-        tree: Some(Initialiser::Value(value.span, x)),
-        reach: value.reach,
+        tree: Some(Initialiser::Value(value.span, Box::into_inner(tree))),
+        reach,
     })
 }
 
 /// An initialiser in braces.
-#[tactic(auto, using(crate::proofs::Rules::unit_views))]
+#[tactic(auto, using(crate::proofs::Rules::one, crate::proofs::Rules::unit_views))]
 pub fn braces(
     alloc: Global,
     span: Span,
@@ -38,12 +36,8 @@ pub fn braces(
 ) -> Mem<Built<Initialiser>>
     ensures { IfOk result (λ p. initialiser_part p ≡ parts_built.braces (initialisers_part items) comma) }
 {
-    let list = items.tree;
-    let reach = nested(alloc, Nest::Declarator, &items.reach)?;
-    if !is_within(&reach) {
-        return Ok(Built { tree: None, reach });
-    }
-    let Some(list) = list else {
+    let Built { tree, reach } = enclosed(alloc, Nest::Declarator, items)?;
+    let Some(list) = tree else {
         return Ok(Built { tree: None, reach });
     };
     Ok(Built {
@@ -76,12 +70,12 @@ fn designator(alloc: Global, aim: Aimed) -> Built<Designator>
             reach: Items::new(alloc),
         },
         Aimed::Index(span, place) => {
-            let ExprPart { tree, reach, .. } = place;
-            let Some(x) = tree else {
+            let Built { tree, reach } = place.built;
+            let Some(place) = tree else {
                 return Built { tree: None, reach };
             };
             Built {
-                tree: Some(Designator::Index(span, x)),
+                tree: Some(Designator::Index(span, Box::into_inner(place))),
                 reach,
             }
         }
@@ -99,21 +93,9 @@ pub fn push_init(
 ) -> Mem<Built<Vec<InitialiserItem>>>
     ensures { IfOk result (λ p. initialisers_part p ≡ parts_built.push_init (initialisers_part before) (aimed_part aim) (initialiser_part value)) }
 {
-    let list = before.tree;
-    let Built {
-        tree: designator,
-        reach: second,
-    } = designator(alloc, aim);
-    let x = value.tree;
-    let second = joined(second, &value.reach)?;
-    let reach = joined(before.reach, &second)?;
-    let Some(mut list) = list else {
-        return Ok(Built { tree: None, reach });
-    };
-    let Some(designator) = designator else {
-        return Ok(Built { tree: None, reach });
-    };
-    let Some(value) = x else {
+    let item = pair(designator(alloc, aim), value)?;
+    let Built { tree, reach } = pair(before, item)?;
+    let Some((mut list, (designator, value))) = tree else {
         return Ok(Built { tree: None, reach });
     };
     list.push(InitialiserItem {
@@ -137,8 +119,32 @@ pub fn no_init_declarators(alloc: Global) -> Built<Vec<InitDeclarator>>
     }
 }
 
+/// One declarator more, with an initialiser or without.
+#[tactic(auto, using(crate::proofs::Rules::inits_last, crate::proofs::Rules::two_more))]
+fn push_declared(
+    before: Built<Vec<InitDeclarator>>,
+    declarator: DeclaratorPart,
+    start: Built<Option<Initialiser>>,
+) -> Mem<Built<Vec<InitDeclarator>>>
+    ensures { IfOk result (λ p. (init_declarators_part p).built ≡ started (init_declarators_part before).built (declarator_part declarator).built (built (option_map view_initialiser) start.tree start.reach)) }
+{
+    let span = declarator.span;
+    let Built { tree, reach } = pair(before, pair(declarator.built, start)?)?;
+    let Some((mut list, (declarator, start))) = tree else {
+        return Ok(Built { tree: None, reach });
+    };
+    list.push(InitDeclarator {
+        span,
+        declarator: Box::into_inner(declarator),
+        start,
+    })?;
+    Ok(Built {
+        tree: Some(list),
+        reach,
+    })
+}
+
 /// One declarator more, without an initialiser.
-#[tactic(auto, using(crate::proofs::Rules::inits_last))]
 pub fn push_bare(
     alloc: Global,
     before: Built<Vec<InitDeclarator>>,
@@ -146,30 +152,14 @@ pub fn push_bare(
 ) -> Mem<Built<Vec<InitDeclarator>>>
     ensures { IfOk result (λ p. init_declarators_part p ≡ parts_built.push_init_declarator (init_declarators_part before) (declarator_part declarator) None) }
 {
-    let span = declarator.span;
-    let list = before.tree;
-    let d = declarator.tree;
-    let second = joined(declarator.reach, &Items::new(alloc))?;
-    let reach = joined(before.reach, &second)?;
-    let Some(mut list) = list else {
-        return Ok(Built { tree: None, reach });
+    let start = Built {
+        tree: Some(None),
+        reach: Items::new(alloc),
     };
-    let Some(declarator) = d else {
-        return Ok(Built { tree: None, reach });
-    };
-    list.push(InitDeclarator {
-        span,
-        declarator,
-        start: None,
-    })?;
-    Ok(Built {
-        tree: Some(list),
-        reach,
-    })
+    push_declared(before, declarator, start)
 }
 
 /// One declarator more, with its initialiser.
-#[tactic(auto, using(crate::proofs::Rules::inits_last))]
 pub fn push_started(
     before: Built<Vec<InitDeclarator>>,
     declarator: DeclaratorPart,
@@ -177,47 +167,21 @@ pub fn push_started(
 ) -> Mem<Built<Vec<InitDeclarator>>>
     ensures { IfOk result (λ p. init_declarators_part p ≡ parts_built.push_init_declarator (init_declarators_part before) (declarator_part declarator) (Some (initialiser_part start))) }
 {
-    let span = declarator.span;
-    let list = before.tree;
-    let d = declarator.tree;
-    let v = start.tree;
-    let second = joined(declarator.reach, &start.reach)?;
-    let reach = joined(before.reach, &second)?;
-    let Some(mut list) = list else {
-        return Ok(Built { tree: None, reach });
-    };
-    let Some(declarator) = d else {
-        return Ok(Built { tree: None, reach });
-    };
-    let Some(start) = v else {
-        return Ok(Built { tree: None, reach });
-    };
-    list.push(InitDeclarator {
-        span,
-        declarator,
-        start: Some(start),
-    })?;
-    Ok(Built {
-        tree: Some(list),
-        reach,
-    })
+    push_declared(before, declarator, given(start))
 }
 
 /// A declaration.
+#[tactic(auto, using(crate::proofs::Rules::one_more))]
 pub fn declare(specs: SpecsPart, list: Built<Vec<InitDeclarator>>) -> Mem<Built<Declaration>>
     ensures { IfOk result (λ p. declaration_part p ≡ parts_built.declare (specs_part specs) (init_declarators_part list)) }
 {
-    let us = specs.tree;
-    let ds = list.tree;
-    let reach = joined(specs.reach, &list.reach)?;
-    let Some(us) = us else {
-        return Ok(Built { tree: None, reach });
-    };
-    let Some(ds) = ds else {
+    let span = specs.span;
+    let Built { tree, reach } = pair(specs.built, list)?;
+    let Some((specs, list)) = tree else {
         return Ok(Built { tree: None, reach });
     };
     Ok(Built {
-        tree: Some(Declaration::Declare(specs.span, us, ds)),
+        tree: Some(Declaration::Declare(span, specs, list)),
         reach,
     })
 }
@@ -226,15 +190,12 @@ pub fn declare(specs: SpecsPart, list: Built<Vec<InitDeclarator>>) -> Mem<Built<
 pub fn static_assert(span: Span, condition: ExprPart, text: Bytes) -> Mem<Built<Declaration>>
     ensures { IfOk result (λ p. declaration_part p ≡ parts_built.assert (expr_of condition) text) }
 {
-    let x = condition.tree;
-    let Some(x) = x else {
-        return Ok(Built {
-            tree: None,
-            reach: condition.reach,
-        });
+    let Built { tree, reach } = condition.built;
+    let Some(condition) = tree else {
+        return Ok(Built { tree: None, reach });
     };
     Ok(Built {
-        tree: Some(Declaration::Assert(span, x, text)),
-        reach: condition.reach,
+        tree: Some(Declaration::Assert(span, Box::into_inner(condition), text)),
+        reach,
     })
 }

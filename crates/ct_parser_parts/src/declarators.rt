@@ -4,10 +4,8 @@ ghost use Rattle.std.specs.Prelude.{◌≡◌, if◌then◌else◌, ◌++◌, �
 ghost use Rattle.ct_parser_parts.specs.Parts.{parts_built, is_one_void, name_maybe};
 ghost use Rattle.ct_parser_parts.specs.Views.{expr_of, specs_part, declarators_part, declarator_part, parameters_part, names_of};
 
-use crate::{
-    Built, DeclaratorPart, Declared, ExprPart, Nest, ParametersPart, SpecsPart, is_within, joined,
-    nested,
-};
+use crate::operands::{enclosed, pair};
+use crate::{Built, DeclaratorPart, Declared, ExprPart, Nest, ParametersPart, SpecsPart};
 use ct_base::{Bytes, Items, Mem, Span};
 use ct_syntax::{Declarator, Parameter, ParameterForm, Qualifier, SpecWord};
 use std::alloc::Global;
@@ -23,23 +21,18 @@ pub fn no_declarators(alloc: Global) -> Built<Vec<Declarator>>
 }
 
 /// One declarator more.
-#[tactic(auto, using(crate::proofs::Rules::declarators_last))]
+#[tactic(auto, using(crate::proofs::Rules::declarators_last, crate::proofs::Rules::one_more))]
 pub fn push_declarator(
     before: Built<Vec<Declarator>>,
     declarator: DeclaratorPart,
 ) -> Mem<Built<Vec<Declarator>>>
     ensures { IfOk result (λ p. declarators_part p ≡ parts_built.push_declarator (declarators_part before) (declarator_part declarator)) }
 {
-    let list = before.tree;
-    let last = declarator.tree;
-    let reach = joined(before.reach, &declarator.reach)?;
-    let Some(mut list) = list else {
+    let Built { tree, reach } = pair(before, declarator.built)?;
+    let Some((mut list, last)) = tree else {
         return Ok(Built { tree: None, reach });
     };
-    let Some(last) = last else {
-        return Ok(Built { tree: None, reach });
-    };
-    list.push(last)?;
+    list.push(Box::into_inner(last))?;
     Ok(Built {
         tree: Some(list),
         reach,
@@ -47,18 +40,21 @@ pub fn push_declarator(
 }
 
 /// Nothing in the place of the name, before a token.
-pub fn nameless(alloc: Global, span: Span) -> DeclaratorPart
-    ensures { declarator_part result ≡ parts_built.nameless }
+pub fn nameless(alloc: Global, span: Span) -> Mem<DeclaratorPart>
+    ensures { IfOk result (λ p. declarator_part p ≡ parts_built.nameless) }
 {
-    DeclaratorPart {
-        tree: Some(Declarator::Nameless),
-        reach: Items::new(alloc),
+    let tree = Box::new(alloc, Declarator::Nameless)?;
+    Ok(DeclaratorPart {
+        built: Built {
+            tree: Some(tree),
+            reach: Items::new(alloc),
+        },
         nameless: true,
         name: None,
         plain: false,
         own: Items::new(alloc),
         span,
-    }
+    })
 }
 
 /// A name.
@@ -66,10 +62,13 @@ pub fn called(alloc: Global, span: Span, text: &[u8]) -> Mem<DeclaratorPart>
     ensures { IfOk result (λ p. declarator_part p ≡ parts_built.called text.now) }
 {
     let name = Bytes::from_slice(alloc, text)?;
-    let tree = Declarator::Name(span, Bytes::from_slice(alloc, text)?);
+    let written = Bytes::from_slice(alloc, text)?;
+    let tree = Box::new(alloc, Declarator::Name(span, written))?;
     Ok(DeclaratorPart {
-        tree: Some(tree),
-        reach: Items::new(alloc),
+        built: Built {
+            tree: Some(tree),
+            reach: Items::new(alloc),
+        },
         nameless: false,
         name: Some(name),
         plain: true,
@@ -79,33 +78,28 @@ pub fn called(alloc: Global, span: Span, text: &[u8]) -> Mem<DeclaratorPart>
 }
 
 /// A declarator in parentheses.
+#[tactic(auto, using(crate::proofs::Rules::one))]
 pub fn group(alloc: Global, span: Span, inner: DeclaratorPart) -> Mem<DeclaratorPart>
     ensures { IfOk result (λ p. declarator_part p ≡ parts_built.group (declarator_part inner)) }
 {
-    let d = inner.tree;
-    let reach = nested(alloc, Nest::Declarator, &inner.reach)?;
-    let is_shallow = is_within(&reach);
+    let Built { tree, reach } = enclosed(alloc, Nest::Declarator, inner.built)?;
     let mut part = DeclaratorPart {
-        tree: None,
-        reach,
+        built: Built { tree: None, reach },
         nameless: false,
         name: inner.name,
         plain: inner.plain,
         own: inner.own,
         span,
     };
-    if !is_shallow {
-        return Ok(part);
-    }
-    let Some(d) = d else {
+    let Some(inside) = tree else {
         return Ok(part);
     };
-    let d = Box::new(alloc, d)?;
-    part.tree = Some(Declarator::Group(span, d));
+    part.built.tree = Some(Box::new(alloc, Declarator::Group(span, inside))?);
     Ok(part)
 }
 
 /// A pointer.
+#[tactic(auto, using(crate::proofs::Rules::one))]
 pub fn pointer(
     alloc: Global,
     span: Span,
@@ -114,88 +108,64 @@ pub fn pointer(
 ) -> Mem<DeclaratorPart>
     ensures { IfOk result (λ p. declarator_part p ≡ parts_built.pointer qualifiers (declarator_part inner)) }
 {
-    let d = inner.tree;
-    let reach = nested(alloc, Nest::Declarator, &inner.reach)?;
-    let is_shallow = is_within(&reach);
+    let Built { tree, reach } = enclosed(alloc, Nest::Declarator, inner.built)?;
     let mut part = DeclaratorPart {
-        tree: None,
-        reach,
+        built: Built { tree: None, reach },
         nameless: false,
         name: inner.name,
         plain: false,
         own: inner.own,
         span,
     };
-    if !is_shallow {
-        return Ok(part);
-    }
-    let Some(d) = d else {
+    let Some(inside) = tree else {
         return Ok(part);
     };
-    let d = Box::new(alloc, d)?;
-    part.tree = Some(Declarator::Pointer(span, qualifiers, d));
+    part.built.tree = Some(Box::new(alloc, Declarator::Pointer(span, qualifiers, inside))?);
     Ok(part)
 }
 
 /// An array without a size.
-#[tactic(auto, using(crate::proofs::Rules::declarator_views))]
+#[tactic(auto, using(crate::proofs::Rules::one, crate::proofs::Rules::declarator_views))]
 pub fn array_open(alloc: Global, inner: DeclaratorPart) -> Mem<DeclaratorPart>
     ensures { IfOk result (λ p. declarator_part p ≡ parts_built.array_open (declarator_part inner)) }
 {
-    let d = inner.tree;
-    let reach = nested(alloc, Nest::Declarator, &inner.reach)?;
-    let is_shallow = is_within(&reach);
+    let span = inner.span;
+    let Built { tree, reach } = enclosed(alloc, Nest::Declarator, inner.built)?;
     let mut part = DeclaratorPart {
-        tree: None,
-        reach,
+        built: Built { tree: None, reach },
         nameless: false,
         name: inner.name,
         plain: false,
         own: inner.own,
-        span: inner.span,
+        span,
     };
-    if !is_shallow {
-        return Ok(part);
-    }
-    let Some(d) = d else {
+    let Some(inside) = tree else {
         return Ok(part);
     };
-    let d = Box::new(alloc, d)?;
-    part.tree = Some(Declarator::Array(inner.span, d, None));
+    part.built.tree = Some(Box::new(alloc, Declarator::Array(span, inside, None))?);
     Ok(part)
 }
 
 /// An array with its size.
-#[tactic(auto, using(crate::proofs::Rules::declarator_views))]
+#[tactic(auto, using(crate::proofs::Rules::two, crate::proofs::Rules::declarator_views))]
 pub fn array(alloc: Global, inner: DeclaratorPart, size: ExprPart) -> Mem<DeclaratorPart>
     ensures { IfOk result (λ p. declarator_part p ≡ parts_built.array (declarator_part inner) (expr_of size)) }
 {
-    let d = inner.tree;
-    let x = size.tree;
-    let reach = joined(inner.reach, &size.reach)?;
-    let reach = nested(alloc, Nest::Declarator, &reach)?;
-    let is_shallow = is_within(&reach);
+    let span = inner.span;
+    let operands = pair(inner.built, size.built)?;
+    let Built { tree, reach } = enclosed(alloc, Nest::Declarator, operands)?;
     let mut part = DeclaratorPart {
-        tree: None,
-        reach,
+        built: Built { tree: None, reach },
         nameless: false,
         name: inner.name,
         plain: false,
         own: inner.own,
-        span: inner.span,
+        span,
     };
-    if !is_shallow {
-        return Ok(part);
-    }
-    let Some(d) = d else {
+    let Some((inside, size)) = tree else {
         return Ok(part);
     };
-    let Some(size) = x else {
-        return Ok(part);
-    };
-    let d = Box::new(alloc, d)?;
-    let size = Box::new(alloc, size)?;
-    part.tree = Some(Declarator::Array(inner.span, d, Some(size)));
+    part.built.tree = Some(Box::new(alloc, Declarator::Array(span, inside, Some(size)))?);
     Ok(part)
 }
 
@@ -206,7 +176,7 @@ fn own_names(plain: bool, inner: Items<Declared>, parameters: Items<Declared>) -
 }
 
 /// A function with its parameters.
-#[tactic(auto, using(crate::proofs::Rules::declarator_views))]
+#[tactic(auto, using(crate::proofs::Rules::two, crate::proofs::Rules::declarator_views))]
 pub fn function(
     alloc: Global,
     inner: DeclaratorPart,
@@ -215,32 +185,22 @@ pub fn function(
 ) -> Mem<DeclaratorPart>
     ensures { IfOk result (λ p. declarator_part p ≡ parts_built.function (declarator_part inner) form (parameters_part parameters)) }
 {
-    let d = inner.tree;
-    let list = parameters.tree;
+    let span = inner.span;
     let own = own_names(inner.plain, inner.own, parameters.names);
-    let reach = joined(inner.reach, &parameters.reach)?;
-    let reach = nested(alloc, Nest::Declarator, &reach)?;
-    let is_shallow = is_within(&reach);
+    let operands = pair(inner.built, parameters.built)?;
+    let Built { tree, reach } = enclosed(alloc, Nest::Declarator, operands)?;
     let mut part = DeclaratorPart {
-        tree: None,
-        reach,
+        built: Built { tree: None, reach },
         nameless: false,
         name: inner.name,
         plain: false,
         own,
-        span: inner.span,
+        span,
     };
-    if !is_shallow {
-        return Ok(part);
-    }
-    let Some(d) = d else {
+    let Some((inside, list)) = tree else {
         return Ok(part);
     };
-    let Some(list) = list else {
-        return Ok(part);
-    };
-    let d = Box::new(alloc, d)?;
-    part.tree = Some(Declarator::Function(inner.span, d, form, list));
+    part.built.tree = Some(Box::new(alloc, Declarator::Function(span, inside, form, list))?);
     Ok(part)
 }
 
@@ -249,8 +209,10 @@ pub fn no_parameters(alloc: Global) -> ParametersPart
     ensures { parameters_part result ≡ parts_built.no_parameters }
 {
     ParametersPart {
-        tree: Some(Vec::new(alloc)),
-        reach: Items::new(alloc),
+        built: Built {
+            tree: Some(Vec::new(alloc)),
+            reach: Items::new(alloc),
+        },
         empty: true,
         only_void: false,
         names: Items::new(alloc),
@@ -276,7 +238,7 @@ fn with_name(names: Items<Declared>, name: Option<Bytes>, is_type: bool) -> Mem<
 }
 
 /// One parameter more.
-#[tactic(auto, using(crate::proofs::Rules::parameters_last, crate::proofs::Rules::names_append))]
+#[tactic(auto, using(crate::proofs::Rules::parameters_last, crate::proofs::Rules::names_append, crate::proofs::Rules::two_more))]
 pub fn push_parameter(
     before: ParametersPart,
     specs: SpecsPart,
@@ -284,36 +246,26 @@ pub fn push_parameter(
 ) -> Mem<ParametersPart>
     ensures { IfOk result (λ p. parameters_part p ≡ parts_built.push_parameter (parameters_part before) (specs_part specs) (declarator_part declarator)) }
 {
-    let list = before.tree;
-    let us = specs.tree;
-    let d = declarator.tree;
+    let span = specs.span;
     let only_void = before.empty && is_void(&specs.words, specs.wholes) && declarator.nameless;
     let more = with_name(specs.names, declarator.name, specs.typedef)?;
     let mut names = before.names;
     names.append(more)?;
-    let second = joined(specs.reach, &declarator.reach)?;
-    let reach = joined(before.reach, &second)?;
+    let Built { tree, reach } = pair(before.built, pair(specs.built, declarator.built)?)?;
     let mut part = ParametersPart {
-        tree: None,
-        reach,
+        built: Built { tree: None, reach },
         empty: false,
         only_void,
         names,
     };
-    let Some(mut list) = list else {
-        return Ok(part);
-    };
-    let Some(us) = us else {
-        return Ok(part);
-    };
-    let Some(declarator) = d else {
+    let Some((mut list, (specs, declarator))) = tree else {
         return Ok(part);
     };
     list.push(Parameter {
-        span: specs.span,
-        specs: us,
-        declarator,
+        span,
+        specs,
+        declarator: Box::into_inner(declarator),
     })?;
-    part.tree = Some(list);
+    part.built.tree = Some(list);
     Ok(part)
 }

@@ -5,6 +5,7 @@ mod bodies;
 mod declarations;
 mod declarators;
 mod expressions;
+mod operands;
 mod parts;
 mod reach;
 mod specifiers;

@@ -22,8 +22,7 @@ pub struct Declared {
 /// An expression, and the level of its production.
 #[derive(Drop)]
 pub struct ExprPart {
-    pub tree: Option<Expr>,
-    pub reach: Reach,
+    pub built: Built<Box<Expr>>,
     pub level: u8,
     pub span: Span,
 }
@@ -32,8 +31,7 @@ pub struct ExprPart {
 /// names that they declare.
 #[derive(Drop)]
 pub struct SpecsPart {
-    pub tree: Option<Vec<Spec>>,
-    pub reach: Reach,
+    pub built: Built<Vec<Spec>>,
     pub words: Items<SpecWord>,
     pub wholes: u64,
     pub typedef: bool,
@@ -44,16 +42,14 @@ pub struct SpecsPart {
 /// Members, and the names that they declare.
 #[derive(Drop)]
 pub struct MembersPart {
-    pub tree: Option<Vec<Member>>,
-    pub reach: Reach,
+    pub built: Built<Vec<Member>>,
     pub names: Items<Declared>,
 }
 
 /// Enumerators, and the names that they declare.
 #[derive(Drop)]
 pub struct EnumeratorsPart {
-    pub tree: Option<Vec<Enumerator>>,
-    pub reach: Reach,
+    pub built: Built<Vec<Enumerator>>,
     pub names: Items<Declared>,
 }
 
@@ -61,8 +57,7 @@ pub struct EnumeratorsPart {
 /// names of the parameters of the function that it names.
 #[derive(Drop)]
 pub struct DeclaratorPart {
-    pub tree: Option<Declarator>,
-    pub reach: Reach,
+    pub built: Built<Box<Declarator>>,
     pub nameless: bool,
     pub name: Option<Bytes>,
     pub plain: bool,
@@ -73,8 +68,7 @@ pub struct DeclaratorPart {
 /// Parameters: whether there is none, whether there is the one word `void`, and the names that they declare.
 #[derive(Drop)]
 pub struct ParametersPart {
-    pub tree: Option<Vec<Parameter>>,
-    pub reach: Reach,
+    pub built: Built<Vec<Parameter>>,
     pub empty: bool,
     pub only_void: bool,
     pub names: Items<Declared>,

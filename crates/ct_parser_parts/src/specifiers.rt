@@ -4,10 +4,8 @@ ghost use Rattle.std.specs.Prelude.{◌≡◌, ◌+◌, IfOk};
 ghost use Rattle.ct_parser_parts.specs.Parts.{parts_built, is_typedef_word};
 ghost use Rattle.ct_parser_parts.specs.Views.{expr_of, specs_part, members_part, enumerators_part, declarators_part};
 
-use crate::{
-    Built, Declared, EnumeratorsPart, ExprPart, MembersPart, Nest, SpecsPart, is_within, joined,
-    nested,
-};
+use crate::operands::{enclosed, pair};
+use crate::{Built, Declared, EnumeratorsPart, ExprPart, MembersPart, Nest, SpecsPart};
 use ct_base::{Bytes, Items, Mem, OutOfMemory, Span};
 use ct_syntax::{Declarator, Enumerator, Member, Spec, SpecWord};
 use std::alloc::Global;
@@ -23,8 +21,10 @@ pub fn no_specs(alloc: Global, span: Span) -> SpecsPart
     ensures { specs_part result ≡ parts_built.no_specs }
 {
     SpecsPart {
-        tree: Some(Vec::new(alloc)),
-        reach: Items::new(alloc),
+        built: Built {
+            tree: Some(Vec::new(alloc)),
+            reach: Items::new(alloc),
+        },
         words: Items::new(alloc),
         wholes: 0,
         typedef: false,
@@ -46,11 +46,11 @@ pub fn with_word(mut before: SpecsPart, word: SpecWord, at: Span) -> Mem<SpecsPa
 {
     before.words.push(word)?;
     before.typedef = before.typedef || is_typedef(word);
-    let Some(mut specs) = before.tree.take() else {
+    let Some(mut specs) = before.built.tree.take() else {
         return Ok(before);
     };
     specs.push(Spec::Word(at, word))?;
-    before.tree = Some(specs);
+    before.built.tree = Some(specs);
     Ok(before)
 }
 
@@ -60,11 +60,11 @@ pub fn with_typedef(mut before: SpecsPart, name: Bytes, at: Span) -> Mem<SpecsPa
     ensures { IfOk result (λ p. specs_part p ≡ parts_built.with_typedef (specs_part before) name) }
 {
     before.wholes = one_more(before.wholes)?;
-    let Some(mut specs) = before.tree.take() else {
+    let Some(mut specs) = before.built.tree.take() else {
         return Ok(before);
     };
     specs.push(Spec::TypedefName(at, name))?;
-    before.tree = Some(specs);
+    before.built.tree = Some(specs);
     Ok(before)
 }
 
@@ -74,11 +74,11 @@ pub fn with_struct_tag(mut before: SpecsPart, name: Bytes, at: Span) -> Mem<Spec
     ensures { IfOk result (λ p. specs_part p ≡ parts_built.with_struct_tag (specs_part before) name) }
 {
     before.wholes = one_more(before.wholes)?;
-    let Some(mut specs) = before.tree.take() else {
+    let Some(mut specs) = before.built.tree.take() else {
         return Ok(before);
     };
     specs.push(Spec::StructTag(at, name))?;
-    before.tree = Some(specs);
+    before.built.tree = Some(specs);
     Ok(before)
 }
 
@@ -88,16 +88,16 @@ pub fn with_enum_tag(mut before: SpecsPart, name: Bytes, at: Span) -> Mem<SpecsP
     ensures { IfOk result (λ p. specs_part p ≡ parts_built.with_enum_tag (specs_part before) name) }
 {
     before.wholes = one_more(before.wholes)?;
-    let Some(mut specs) = before.tree.take() else {
+    let Some(mut specs) = before.built.tree.take() else {
         return Ok(before);
     };
     specs.push(Spec::EnumTag(at, name))?;
-    before.tree = Some(specs);
+    before.built.tree = Some(specs);
     Ok(before)
 }
 
 /// A struct with its members more.
-#[tactic(auto, using(crate::proofs::Rules::names_append))]
+#[tactic(auto, using(crate::proofs::Rules::names_append, crate::proofs::Rules::specs_last, crate::proofs::Rules::one_inside, crate::proofs::Rules::tree_views))]
 pub fn with_struct(
     alloc: Global,
     before: SpecsPart,
@@ -107,39 +107,29 @@ pub fn with_struct(
 ) -> Mem<SpecsPart>
     ensures { IfOk result (λ p. specs_part p ≡ parts_built.with_struct (specs_part before) tag (members_part members)) }
 {
-    let specs = before.tree;
-    let list = members.tree;
-    let inside = nested(alloc, Nest::Declarator, &members.reach)?;
-    let is_shallow = is_within(&inside);
-    let reach = joined(before.reach, &inside)?;
     let wholes = one_more(before.wholes)?;
     let mut names = before.names;
     names.append(members.names)?;
+    let inside = enclosed(alloc, Nest::Declarator, members.built)?;
+    let Built { tree, reach } = pair(before.built, inside)?;
     let mut part = SpecsPart {
-        tree: None,
-        reach,
+        built: Built { tree: None, reach },
         words: before.words,
         wholes,
         typedef: before.typedef,
         names,
         span: before.span,
     };
-    if !is_shallow {
-        return Ok(part);
-    }
-    let Some(mut specs) = specs else {
-        return Ok(part);
-    };
-    let Some(list) = list else {
+    let Some((mut specs, list)) = tree else {
         return Ok(part);
     };
     specs.push(Spec::StructList(at, tag, list))?;
-    part.tree = Some(specs);
+    part.built.tree = Some(specs);
     Ok(part)
 }
 
 /// An enumeration with its enumerators more.
-#[tactic(auto, using(crate::proofs::Rules::names_append))]
+#[tactic(auto, using(crate::proofs::Rules::names_append, crate::proofs::Rules::specs_last, crate::proofs::Rules::one_more, crate::proofs::Rules::tree_views))]
 pub fn with_enum(
     before: SpecsPart,
     at: Span,
@@ -149,29 +139,23 @@ pub fn with_enum(
 ) -> Mem<SpecsPart>
     ensures { IfOk result (λ p. specs_part p ≡ parts_built.with_enum (specs_part before) tag (enumerators_part enumerators) comma) }
 {
-    let specs = before.tree;
-    let list = enumerators.tree;
-    let reach = joined(before.reach, &enumerators.reach)?;
     let wholes = one_more(before.wholes)?;
     let mut names = before.names;
     names.append(enumerators.names)?;
+    let Built { tree, reach } = pair(before.built, enumerators.built)?;
     let mut part = SpecsPart {
-        tree: None,
-        reach,
+        built: Built { tree: None, reach },
         words: before.words,
         wholes,
         typedef: before.typedef,
         names,
         span: before.span,
     };
-    let Some(mut specs) = specs else {
-        return Ok(part);
-    };
-    let Some(list) = list else {
+    let Some((mut specs, list)) = tree else {
         return Ok(part);
     };
     specs.push(Spec::EnumList(at, tag, list, comma))?;
-    part.tree = Some(specs);
+    part.built.tree = Some(specs);
     Ok(part)
 }
 
@@ -180,14 +164,16 @@ pub fn no_members(alloc: Global) -> MembersPart
     ensures { members_part result ≡ parts_built.no_members }
 {
     MembersPart {
-        tree: Some(Vec::new(alloc)),
-        reach: Items::new(alloc),
+        built: Built {
+            tree: Some(Vec::new(alloc)),
+            reach: Items::new(alloc),
+        },
         names: Items::new(alloc),
     }
 }
 
 /// One declaration of members more.
-#[tactic(auto, using(crate::proofs::Rules::members_last, crate::proofs::Rules::names_append))]
+#[tactic(auto, using(crate::proofs::Rules::members_last, crate::proofs::Rules::names_append, crate::proofs::Rules::two_more))]
 pub fn push_member(
     before: MembersPart,
     specs: SpecsPart,
@@ -195,33 +181,23 @@ pub fn push_member(
 ) -> Mem<MembersPart>
     ensures { IfOk result (λ p. members_part p ≡ parts_built.push_member (members_part before) (specs_part specs) (declarators_part list)) }
 {
-    let members = before.tree;
-    let us = specs.tree;
-    let declarators = list.tree;
+    let span = specs.span;
     let mut names = before.names;
     names.append(specs.names)?;
-    let second = joined(specs.reach, &list.reach)?;
-    let reach = joined(before.reach, &second)?;
+    let Built { tree, reach } = pair(before.built, pair(specs.built, list)?)?;
     let mut part = MembersPart {
-        tree: None,
-        reach,
+        built: Built { tree: None, reach },
         names,
     };
-    let Some(mut members) = members else {
-        return Ok(part);
-    };
-    let Some(us) = us else {
-        return Ok(part);
-    };
-    let Some(declarators) = declarators else {
+    let Some((mut members, (specs, declarators))) = tree else {
         return Ok(part);
     };
     members.push(Member {
-        span: specs.span,
-        specs: us,
+        span,
+        specs,
         declarators,
     })?;
-    part.tree = Some(members);
+    part.built.tree = Some(members);
     Ok(part)
 }
 
@@ -230,8 +206,10 @@ pub fn no_enumerators(alloc: Global) -> EnumeratorsPart
     ensures { enumerators_part result ≡ parts_built.no_enumerators }
 {
     EnumeratorsPart {
-        tree: Some(Vec::new(alloc)),
-        reach: Items::new(alloc),
+        built: Built {
+            tree: Some(Vec::new(alloc)),
+            reach: Items::new(alloc),
+        },
         names: Items::new(alloc),
     }
 }
@@ -240,41 +218,31 @@ pub fn no_enumerators(alloc: Global) -> EnumeratorsPart
 #[tactic(auto, using(crate::proofs::Rules::enumerators_last, crate::proofs::Rules::names_last))]
 pub fn push_enumerator(
     alloc: Global,
-    before: EnumeratorsPart,
+    mut before: EnumeratorsPart,
     at: Span,
     name: Bytes,
 ) -> Mem<EnumeratorsPart>
     ensures { IfOk result (λ p. enumerators_part p ≡ parts_built.push_enumerator (enumerators_part before) name) }
 {
-    let list = before.tree;
-    let mut names = before.names;
     let declared = Bytes::from_slice(alloc, name.as_slice())?;
-    names.push(Declared {
+    before.names.push(Declared {
         name: declared,
         is_type: false,
     })?;
-    let reach = before.reach;
-    let Some(mut list) = list else {
-        return Ok(EnumeratorsPart {
-            tree: None,
-            reach,
-            names,
-        });
+    let Some(mut list) = before.built.tree.take() else {
+        return Ok(before);
     };
     list.push(Enumerator {
         span: at,
         name,
         value: None,
     })?;
-    Ok(EnumeratorsPart {
-        tree: Some(list),
-        reach,
-        names,
-    })
+    before.built.tree = Some(list);
+    Ok(before)
 }
 
 /// One enumerator more, with its value.
-#[tactic(auto, using(crate::proofs::Rules::enumerators_last, crate::proofs::Rules::names_last))]
+#[tactic(auto, using(crate::proofs::Rules::enumerators_last, crate::proofs::Rules::names_last, crate::proofs::Rules::one_more))]
 pub fn push_valued(
     alloc: Global,
     before: EnumeratorsPart,
@@ -284,32 +252,25 @@ pub fn push_valued(
 ) -> Mem<EnumeratorsPart>
     ensures { IfOk result (λ p. enumerators_part p ≡ parts_built.push_valued (enumerators_part before) name (expr_of value)) }
 {
-    let list = before.tree;
-    let x = value.tree;
-    let mut names = before.names;
     let declared = Bytes::from_slice(alloc, name.as_slice())?;
+    let mut names = before.names;
     names.push(Declared {
         name: declared,
         is_type: false,
     })?;
-    let reach = joined(before.reach, &value.reach)?;
+    let Built { tree, reach } = pair(before.built, value.built)?;
     let mut part = EnumeratorsPart {
-        tree: None,
-        reach,
+        built: Built { tree: None, reach },
         names,
     };
-    let Some(mut list) = list else {
+    let Some((mut list, value)) = tree else {
         return Ok(part);
     };
-    let Some(value) = x else {
-        return Ok(part);
-    };
-    let value = Box::new(alloc, value)?;
     list.push(Enumerator {
         span: at,
         name,
         value: Some(value),
     })?;
-    part.tree = Some(list);
+    part.built.tree = Some(list);
     Ok(part)
 }
