@@ -1,7 +1,7 @@
+mod BelowLemmas
 mod ListingLemmas
 mod MatchingLemmas
 mod NamedLemmas
-mod PathLemmas
-mod PathsLemmas
-mod StoredLemmas
 mod TextsLemmas
+pub mod ComponentLemmas
+pub mod StoredLemmas

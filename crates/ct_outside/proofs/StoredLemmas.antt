@@ -3,6 +3,7 @@ use Rattle.std.proofs.Common.{◌≡◌, ℕ, zero, suc, ◌+◌, ◌<◌, Bool,
 use Rattle.std.specs.Ordering.{nat_cmp, eq_by_cmp}
 use Rattle.std.specs.Cmp.Lexicographic.{slice_cmp}
 use Rattle.std.specs.Cmp.{Equal-is}
+use Rattle.std.proofs.lemmas.Bool.{false_from_ne_true}
 use Rattle.std.proofs.lemmas.Cmp.{nat_list_cmp_total, tied_itself}
 use Rattle.std.proofs.lemmas.List.{take_more}
 use Rattle.std.specs.FinMap.{IsAntisymmetric, slice_cmp-IsAntisymmetric, nat_cmp-IsAntisymmetric, get, insert, get-insert, same_map}
@@ -23,12 +24,8 @@ equal_paths p q e = alike p q ((Equal-is (slice_cmp nat_cmp p q)).0 e)
 pub path_itself : (p : List ℕ) → same_path p p ≡ true
 path_itself p = (Equal-is (slice_cmp nat_cmp p p)).1 (tied_itself nat_list_cmp_total p)
 
-not_true : (b : Bool) → (b ≡ true → ⊥) → b ≡ false
-not_true true n = absurd (n refl)
-not_true false n = refl
-
 pub other_paths : (p q : List ℕ) → (p ≡ q → ⊥) → same_path p q ≡ false
-other_paths p q n = not_true _ (λ e. n (equal_paths p q e))
+other_paths p q n = false_from_ne_true _ (λ e. n (equal_paths p q e))
 
 pub get_insert : (m : Files) (k v q : List ℕ) → get (insert m k v) q ≡ cond (same_path q k) (Some v) (get m q)
 get_insert m k v q = get-insert nat_list_cmp_total m k v q

@@ -56,11 +56,11 @@ ListsFolder files folder Absent old new = IsFolder files folder → ⊥
 ListsFolder files folder TooLarge old new = ⊥
 
 -- what a read of a file answers over these files, and appends
-abbrev pub ReadsFile : Files → List ℕ → ℕ → Found → List ℕ → List ℕ → Type 0
-ReadsFile files path limit There old new =
+abbrev pub AppendsFile : Files → List ℕ → ℕ → Found → List ℕ → List ℕ → Type 0
+AppendsFile files path limit There old new =
     (bytes : List ℕ) × (get files path ≡ Some bytes) × (length bytes ≤ limit) × (new ≡ old ++ bytes)
-ReadsFile files path limit Absent old new = get files path ≡ None
-ReadsFile files path limit TooLarge old new = IsSomeAnd (get files path) (λ bytes. limit < length bytes)
+AppendsFile files path limit Absent old new = get files path ≡ None
+AppendsFile files path limit TooLarge old new = IsSomeAnd (get files path) (λ bytes. limit < length bytes)
 
 -- from one moment to another this file was set and no other, where the files are told
 abbrev pub SetsFile : Option Files → Option Files → List ℕ → List ℕ → Type 0

@@ -53,7 +53,7 @@ fn add_entry(alloc: Global, folder: &str, path: &str, entries: &mut Vec<Entry>) 
     let Some(rest) = rest_below(folder, path) else {
         return Ok(());
     };
-    let (name, folder) = first_component(rest);
+    let (name, folder) = first_name(rest);
     if has_entry(entries, name, folder) {
         return Ok(());
     }
@@ -79,7 +79,7 @@ pub fn rest_below<'a>(folder: &str, path: &'a str) -> Option<&'a str>
 }
 
 /// The first component of a path, and whether more follow.
-fn first_component(path: &str) -> (&str, bool)
+fn first_name(path: &str) -> (&str, bool)
     ensures name { result.0.now ≡ before_first is_slash path.now }
     ensures folder { result.1 ≡ list_any is_slash path.now }
 {

@@ -5,7 +5,7 @@ ghost use Rattle.std.specs.Option.{option_copied};
 ghost use Rattle.std.specs.List.{Contains};
 ghost use Rattle.std.specs.FinMap.{empty, get, insert};
 ghost use Rattle.ct_outside.specs.Counts.{faults_after, raised};
-ghost use Rattle.ct_outside.specs.Files.{Leaves, ListsFolder, ReadsFile};
+ghost use Rattle.ct_outside.specs.Files.{Leaves, ListsFolder, AppendsFile};
 ghost use Rattle.ct_outside.specs.Stored.{files_of};
 
 use crate::listing::append_entries;
@@ -138,7 +138,7 @@ impl Tree for MemTree {
         into: &mut Vec<u8>,
     ) -> Result<Found, TreeError>
         ensures told { IfOk result (λ found.
-            ReadsFile self.old.files path.now limit found into.old.items into.new.items) }
+            AppendsFile self.old.files path.now limit found into.old.items into.new.items) }
         ensures left { Leaves result into.old.items into.new.items }
         ensures kept { OnErr result (into.new.items ≡ into.old.items) }
         ensures within { IfOk result (λ _. vec_len into.new ≤ vec_len into.old + limit) }

@@ -3,7 +3,7 @@
 ghost use Rattle.std.specs.Prelude.{◌≡◌, ◌<◌, None, IfOk, IfErr, OnOk, OnErr, MatchOption, length, take, slice_index_or};
 ghost use Rattle.std.specs.Option.{option_copied};
 ghost use Rattle.std.specs.FinMap.{get, insert};
-ghost use Rattle.ct_outside.specs.Files.{ReadsFile, Leaves};
+ghost use Rattle.ct_outside.specs.Files.{AppendsFile, Leaves};
 ghost use Rattle.ct_outside.specs.Stored.{files_of};
 ghost use Rattle.ct_outside.specs.declared.stored.StoredFile.{StoredFile};
 
@@ -36,10 +36,8 @@ fn place_of(files: &[StoredFile], path: &str) -> Option<usize>
 pub fn bytes_at<'a>(files: &'a [StoredFile], path: &str) -> Option<&'a [u8]>
     ensures { option_copied result ≡ get (files_of files.now) path.now }
 {
-    match place_of(files, path) {
-        Some(place) => Some(files[place].bytes.as_slice()),
-        None => None,
-    }
+    let place = place_of(files, path)?;
+    Some(files[place].bytes.as_slice())
 }
 
 /// Sets the file at a path.
@@ -66,7 +64,7 @@ pub fn append_file(
     into: &mut Vec<u8>,
 ) -> Result<Found, TreeError>
     ensures told { IfOk result (λ found.
-        ReadsFile (files_of files.now) path.now limit found into.old.items into.new.items) }
+        AppendsFile (files_of files.now) path.now limit found into.old.items into.new.items) }
     ensures left { Leaves result into.old.items into.new.items }
     ensures kept { OnErr result (into.new.items ≡ into.old.items) }
     ensures memory { IfErr result (λ error. error ≡ TreeError.OutOfMemory) }

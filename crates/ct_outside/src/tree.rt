@@ -2,7 +2,7 @@
 
 ghost use Rattle.std.specs.Prelude.{◌≡◌, ℕ, ◌+◌, ◌-◌, ◌^◌, ◌≤◌, List, Option, IfOk, IfSome, OnOk, OnErr, vec_len};
 ghost use Rattle.ct_outside.specs.Counts.{CountAfter};
-ghost use Rattle.ct_outside.specs.Files.{Files, Leaves, ListsFolder, ReadsFile, SetsFile};
+ghost use Rattle.ct_outside.specs.Files.{Files, Leaves, ListsFolder, AppendsFile, SetsFile};
 ghost use Rattle.ct_outside.specs.declared.tree.TreeError.TheVariants.{OutOfMemory as out_of_memory};
 
 use ct_base::{OutOfMemory, Text};
@@ -86,7 +86,7 @@ pub trait Tree {
         into: &mut Vec<u8>,
     ) -> Result<Found, TreeError>
         ensures told { IfSome (files self.old) (λ told. IfOk result (λ found.
-            ReadsFile told path.now limit found into.old.items into.new.items)) }
+            AppendsFile told path.now limit found into.old.items into.new.items)) }
         ensures left { Leaves result into.old.items into.new.items }
         ensures within { IfOk result (λ _. vec_len into.new ≤ vec_len into.old + limit) }
         ensures same_files { files self.new ≡ files self.old }

@@ -9,7 +9,7 @@ use Rattle.ct_base.specs.declared.memory.Fail.{Fail}
 use Rattle.ct_base.specs.declared.memory.Fail.TheVariants.{Fault, OutOfMemory}
 use Rattle.ct_base.specs.declared.refusals.Refusal.{Refusal}
 use Rattle.ct_find.specs.Limits.{most_file_bytes}
-use Rattle.ct_outside.specs.Files.{Files, ReadsFile}
+use Rattle.ct_outside.specs.Files.{Files, AppendsFile}
 use Rattle.ct_outside.specs.declared.tree.Found.{Found}
 use Rattle.ct_outside.specs.declared.tree.Found.TheVariants.{TooLarge}
 use Rattle.ct_settings.specs.declared.record.ProjectSettings.{ProjectSettings}
@@ -31,10 +31,10 @@ told_at {A = A} o P x h e = let Q : Option A → Type 0 = λ p. IfSome p P in su
 
 -- the project file is too long
 pub too_large : (told : Option Files) (files : Files) (found : Found) (old text : List ℕ) (refusal : Refusal) → told ≡ Some files → found ≡ TooLarge
-    → IfSome told (λ fs. ReadsFile fs project_path most_file_bytes found old text) → refusal ≡ limit_passed FileBytes project_path → HasOutcome files (Err refusal)
+    → IfSome told (λ fs. AppendsFile fs project_path most_file_bytes found old text) → refusal ≡ limit_passed FileBytes project_path → HasOutcome files (Err refusal)
 too_large told files found old text refusal tells is reads named =
-    let long : ReadsFile files project_path most_file_bytes TooLarge old text = subst (λ f. ReadsFile files project_path most_file_bytes f old text) is
-    (told_at told (λ fs. ReadsFile fs project_path most_file_bytes found old text) files reads tells) in
+    let long : AppendsFile files project_path most_file_bytes TooLarge old text = subst (λ f. AppendsFile files project_path most_file_bytes f old text) is
+    (told_at told (λ fs. AppendsFile fs project_path most_file_bytes found old text) files reads tells) in
     subst (λ r. HasOutcome files (Err r)) (sym named) (long_text files (get files project_path) long)
 
 -- the text is not too long, so it decides

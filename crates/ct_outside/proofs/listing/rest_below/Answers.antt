@@ -1,7 +1,7 @@
 use Rattle.std.proofs.Common.{rules, ℕ, List, ◌++◌, arith, sym, ap, ◌∙◌}
 use Rattle.std.specs.Option.{option_copied}
 use Rattle.std.proofs.lemmas.Str.Pattern.{strip_prefix_char}
-use Rattle.ct_outside.proofs.PathLemmas.{rest_none, rest_from_strips}
+use Rattle.ct_outside.proofs.BelowLemmas.{rest_none, rest_from_strips}
 use Rattle.ct_outside.proofs.listing.rest_below.Goals as goal
 
 pub returns-in_err-strip_prefix : goal.returns-in_err-strip_prefix

@@ -1,5 +1,5 @@
 use Rattle.std.proofs.Common.{◌<◌, length, arith, rules}
-use Rattle.ct_outside.proofs.PathsLemmas.{first_piece, last_piece, shorter}
+use Rattle.ct_outside.proofs.ComponentLemmas.{first_piece, last_piece, shorter}
 use Rattle.ct_outside.proofs.paths.first_component.Goals as goal
 
 pub returns-then-not-is_empty : goal.returns-then-not-is_empty

@@ -1,6 +1,6 @@
 use Rattle.std.proofs.Common.{rules}
 use Rattle.ct_outside.specs.Paths.{components_of}
-use Rattle.ct_outside.proofs.PathsLemmas.{inside, leads_more, leaves_more}
+use Rattle.ct_outside.proofs.ComponentLemmas.{inside, leads_more, leaves_more}
 use Rattle.ct_outside.proofs.paths.follow.Goals as goal
 
 pub loop-component-preserved : goal.loop-component-preserved

@@ -1,7 +1,7 @@
 use Rattle.std.proofs.Common.{[], rules, refl, sym}
 use Rattle.std.proofs.lemmas.Bool.{false≢true}
 use Rattle.ct_outside.specs.Paths.{components_of, joined_components}
-use Rattle.ct_outside.proofs.PathsLemmas.{inside, outside, leads_on, leads_within, leaves_first, leaves_second}
+use Rattle.ct_outside.proofs.ComponentLemmas.{inside, outside, leads_on, leads_within, leaves_first, leaves_second}
 use Rattle.ct_outside.proofs.paths.join_path.Goals as goal
 
 pub returns-then-not-branch-clause-root : goal.returns-then-not-branch-clause-root

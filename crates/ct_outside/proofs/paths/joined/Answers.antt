@@ -1,5 +1,5 @@
 use Rattle.std.proofs.Common.{refl, arith}
-use Rattle.ct_outside.proofs.PathsLemmas.{path_of-more}
+use Rattle.ct_outside.proofs.ComponentLemmas.{path_of-more}
 use Rattle.ct_outside.proofs.paths.joined.Goals as goal
 use Rattle.ct_outside.proofs.paths.joined.Goals.{then-place-gt0+in_ok-push, else-place-gt0}
 

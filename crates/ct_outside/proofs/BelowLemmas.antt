@@ -2,6 +2,7 @@
 use Rattle.std.proofs.Common.{◌≡◌, ◌≢◌, ℕ, ◌+◌, ◌<◌, Bool, true, false, cond, not, ◌||◌, nat_eq, List, [], ◌∷◌, ◌++◌, length, drop, refl, sym, ap, ◌∙◌, arith, Option, Some, None, MatchOption, Bor, append_assoc, length-append}
 use Rattle.std.specs.List.{position_or_len, list_any, starts_with}
 use Rattle.std.specs.Option.{option_copied}
+use Rattle.std.proofs.lemmas.Bool.{false_from_ne_true}
 use Rattle.std.proofs.lemmas.Bool.Decides.{Decides-eqb}
 use Rattle.std.proofs.lemmas.List.{append_cancel_left}
 use Rattle.std.proofs.lemmas.List.Prefix.{front_rest}
@@ -30,16 +31,12 @@ rest_there (c ∷ cs) path rest h e =
     ap (λ (t : Bool). cond t (Some (drop (length cs + 2) path)) None) test
     ∙ ap Some (ap (λ (n : ℕ). drop n path) (sym len) ∙ front_rest path ((c ∷ cs) ++ 47 ∷ []) rest whole)
 
-not_true : (b : Bool) → (b ≡ true → ⊥) → b ≡ false
-not_true true n = absurd (n refl)
-not_true false n = refl
-
 -- a path that does not
 pub rest_none : (folder path : List ℕ) → 0 < length folder → ((rest : List ℕ) → path ≢ folder ++ 47 ∷ rest) → rest_below folder path ≡ None
 rest_none [] path h n = absurd (omega arith)
 rest_none (c ∷ cs) path h n =
     ap (λ (t : Bool). cond t (Some (drop (length cs + 2) path)) None)
-    (not_true _ (λ t. n _ ((starts (c ∷ cs) path).0 t ∙ append_assoc (c ∷ cs) (47 ∷ []) _)))
+    (false_from_ne_true _ (λ t. n _ ((starts (c ∷ cs) path).0 t ∙ append_assoc (c ∷ cs) (47 ∷ []) _)))
 
 -- the folder and then the slash are taken off
 pub rest_from_strips : (folder path behind : List ℕ) (rest : Option (Bor (List ℕ))) → 0 < length folder → path ≡ folder ++ behind → MatchOption rest ((more : List ℕ) → behind ≢ 47 ∷ more) (λ more. behind ≡ 47 ∷ more.now) → option_copied rest ≡ rest_below folder path

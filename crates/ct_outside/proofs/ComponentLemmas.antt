@@ -13,8 +13,8 @@ use Rattle.ct_outside.specs.Paths.{Leads, LeavesRoot, Steps, components_of, is_h
 some : List ℕ → Bool
 some piece = nat_lt 0 (length piece)
 
-keeps : (x : List ℕ) (xs : List (List ℕ)) → 0 < length x → filter (λ piece. nat_lt 0 (length piece)) (x ∷ xs) ≡ x ∷ filter (λ piece. nat_lt 0 (length piece)) xs
-keeps x xs h =
+pub components_keep : (x : List ℕ) (xs : List (List ℕ)) → 0 < length x → filter (λ piece. nat_lt 0 (length piece)) (x ∷ xs) ≡ x ∷ filter (λ piece. nat_lt 0 (length piece)) xs
+components_keep x xs h =
     let t : nat_lt 0 (length x) ≡ true = grind (arith, nat_tests) in
     ap (λ (b : Bool). cond b (x ∷ filter (λ piece. nat_lt 0 (length piece)) xs) (filter (λ piece. nat_lt 0 (length piece)) xs)) t
 
@@ -23,7 +23,7 @@ components_of-first : (path : List ℕ) → position_or_len is_slash path < leng
     → components_of path ≡ before_first is_slash path ∷ components_of (after_first is_slash path)
 components_of-first path within there =
     ap (λ (ps : List (List ℕ)). filter (λ piece. nat_lt 0 (length piece)) ps) (slice_split_first is_slash path 0 within)
-    ∙ keeps (before_first is_slash path) (slice_split is_slash (after_first is_slash path)) there
+    ∙ components_keep (before_first is_slash path) (slice_split is_slash (after_first is_slash path)) there
 
 no_slash_at : (b : ℕ) (bs : List ℕ) (t : Bool) → is_slash b ≡ t → cond (not t) (1 + position_or_len is_slash bs) 0 ≡ suc (length bs) → (t ≡ false) × (position_or_len is_slash bs ≡ length bs)
 no_slash_at b bs true i h = absurd (omega arith)
@@ -38,7 +38,7 @@ no_slashes (b ∷ bs) e =
 -- the path is one component
 components_of-last : (path : List ℕ) → position_or_len is_slash path ≡ length path → 0 < length path → components_of path ≡ path ∷ []
 components_of-last path none there =
-    ap (λ (ps : List (List ℕ)). filter (λ piece. nat_lt 0 (length piece)) ps) (slice_split_none is_slash path (no_slashes path none)) ∙ keeps path [] there
+    ap (λ (ps : List (List ℕ)). filter (λ piece. nat_lt 0 (length piece)) ps) (slice_split_none is_slash path (no_slashes path none)) ∙ components_keep path [] there
 
 pub first_piece : (path rest piece behind : List ℕ) → components_of path ≡ components_of rest → length rest ≤ length path
     → (piece ≡ before_first is_slash rest) × (behind ≡ after_first is_slash rest) × (position_or_len is_slash rest < length rest) → 0 < length piece
@@ -57,7 +57,7 @@ pub last_piece : (path rest : List ℕ) → components_of path ≡ components_of
 last_piece path rest same none there = same ∙ components_of-last rest none there
 
 -- one more component
-path_of-push : (xs : List (List ℕ)) (x y : List ℕ) → path_of ((x ∷ xs) ++ y ∷ []) ≡ path_of (x ∷ xs) ++ 47 ∷ y
+pub path_of-push : (xs : List (List ℕ)) (x y : List ℕ) → path_of ((x ∷ xs) ++ y ∷ []) ≡ path_of (x ∷ xs) ++ 47 ∷ y
 path_of-push [] x y = refl
 path_of-push (z ∷ zs) x y = ap (λ (t : List ℕ). x ++ 47 ∷ t) (path_of-push zs z y) ∙ sym (append_assoc x (47 ∷ path_of (z ∷ zs)) (47 ∷ y))
 
