@@ -15,7 +15,7 @@ use Rattle.ct_outside.specs.declared.tree.Found.TheVariants.{TooLarge}
 use Rattle.ct_settings.specs.declared.record.ProjectSettings.{ProjectSettings}
 use Rattle.ct_settings.specs.Table.{settings_of}
 use Rattle.ct_yaml.specs.declared.node.Node.{Node}
-use Rattle.ct_yaml.specs.Text.{text_lines, Spells}
+use Rattle.ct_yaml.specs.Text.{text_lines, SpellsNode}
 use Rattle.ct_top.specs.Project.{HasOutcome, LongTextMeans, Outcome, ProjectMeans, SearchMeans, SettingsMean, TextMeans, limit_passed, project_path}
 
 long_text : (files : Files) (text : Option (List ℕ)) → IsSomeAnd text (λ bytes. most_file_bytes < length bytes)
@@ -46,7 +46,7 @@ short_text files text outcome is short means =
     subst (λ o. ProjectMeans files o outcome) (sym is) here
 
 -- the text spells a node, so its settings decide
-pub text_goes_on : (text : List ℕ) (node : Node) (r : Result ProjectSettings (Fail Refusal)) → Spells (text_lines text) node
+pub text_goes_on : (text : List ℕ) (node : Node) (r : Result ProjectSettings (Fail Refusal)) → SpellsNode (text_lines text) node
     → IfOk r (λ settings. settings_of node ≡ Ok settings)
     → IfOk r (λ settings. (files : Files) (outcome : Outcome) → SearchMeans files settings outcome → TextMeans files text outcome)
 text_goes_on text node (Ok settings) spells is =

@@ -22,7 +22,7 @@ use Rattle.ct_settings.specs.declared.record.SettingKind.TheVariants.{NotMap, No
 use Rattle.ct_settings.specs.Table.{settings_of}
 use Rattle.ct_top.specs.Meaning.{FileMeans}
 use Rattle.ct_yaml.specs.declared.node.Node.{Node}
-use Rattle.ct_yaml.specs.Text.{text_lines, Spells, IsFaultLine}
+use Rattle.ct_yaml.specs.Text.{text_lines, SpellsNode, IsFaultLine}
 
 abbrev pub project_path : List ℕ
 project_path = codes "project.yml"
@@ -144,12 +144,12 @@ SettingsMean files (Ok settings) outcome = SearchMeans files settings outcome
 
 -- no node spells the text, and this is the line at which it is refused
 abbrev pub IsNoYaml : List ℕ → ℕ → Type 0
-IsNoYaml text line = ((node : Node) → Spells (text_lines text) node → ⊥) × IsFaultLine (text_lines text) line
+IsNoYaml text line = ((node : Node) → SpellsNode (text_lines text) node → ⊥) × IsFaultLine (text_lines text) line
 
 -- the text of the project file spells a node, or is refused at a line
 abbrev pub TextMeans : Files → List ℕ → Outcome → Type 0
 TextMeans files text outcome =
-    ((node : Node) × Spells (text_lines text) node × SettingsMean files (settings_of node) outcome)
+    ((node : Node) × SpellsNode (text_lines text) node × SettingsMean files (settings_of node) outcome)
     ⊎ ((line : ℕ) × IsNoYaml text line × (outcome ≡ Err (no_yaml line)))
 
 -- it is not read where it is too long

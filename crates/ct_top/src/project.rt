@@ -9,7 +9,7 @@ ghost use Rattle.ct_settings.specs.Table.{settings_of};
 ghost use Rattle.ct_settings.specs.declared.record.SettingFault.{SettingFault};
 ghost use Rattle.ct_top.specs.Project.{HasOutcome, IsNoYaml, Outcome, SearchMeans, TextMeans, bad_setting, no_yaml, project_path};
 ghost use Rattle.ct_top.specs.Stops.{FaultsAfter, IfRefused};
-ghost use Rattle.ct_yaml.specs.Text.{Spells, text_lines};
+ghost use Rattle.ct_yaml.specs.Text.{SpellsNode, text_lines};
 
 use crate::refusing::{bad_setting, limit_passed, no_project, no_yaml};
 use crate::stops::Stop;
@@ -50,7 +50,7 @@ fn project_text<T: Tree>(alloc: Global, tree: &mut T) -> Result<Vec<u8>, Stop>
 #[tactic(auto, using(ct_yaml::proofs::CutLemmas::text_lines_few, ct_yaml::proofs::RunLemmas::line_told))]
 fn node_of(alloc: Global, text: &[u8]) -> Out<Node, Refusal>
     requires { length text.now ≤ most_file_bytes }
-    ensures ok { IfOk result (λ node. Spells (text_lines text.now) node) }
+    ensures ok { IfOk result (λ node. SpellsNode (text_lines text.now) node) }
     ensures refused { IfFault result (λ refusal. (line : ℕ) × IsNoYaml text.now line × (refusal ≡ no_yaml line)) }
 {
     match read(alloc, text) {

@@ -15,7 +15,7 @@ use Rattle.ct_yaml.specs.declared.text.Phase.{Phase}
 use Rattle.ct_yaml.specs.declared.text.Phase.TheVariants.{Start, Body, Ended}
 use Rattle.ct_yaml.specs.Line.{is_end, is_blank_line, IsLine}
 use Rattle.ct_yaml.specs.Block.{marks_of}
-use Rattle.ct_yaml.specs.Text.{other_lines, MayBeMarker, AreLines, IsTop, Spells, Begins, IsFaultLine, IsRefused}
+use Rattle.ct_yaml.specs.Text.{other_lines, MayBeMarker, AreLines, IsTop, SpellsNode, Begins, IsFaultLine, IsRefused}
 use Rattle.ct_yaml.specs.Reading.{then_read, mapped, line_marks}
 use Rattle.ct_yaml.specs.Stack.{Open, steps, text_node}
 use Rattle.ct_yaml.specs.Run.{Place, is_marker, body_step, other_step, line_step, run, started, run_all}
@@ -235,7 +235,7 @@ through-append place (x ∷ xs) ys =
     [ None ↦ refl | Some new ↦ through-append new xs ys ]
 
 -- what is read to its end is spelled
-reached_spells : (place : Place) (lines : List (List ℕ)) → Reached place lines → Spells lines (text_node place.1)
+reached_spells : (place : Place) (lines : List (List ℕ)) → Reached place lines → SpellsNode lines (text_node place.1)
 reached_spells place lines r =
     let s = r.stands in record {
       layout = s.layout;
@@ -252,7 +252,7 @@ reached_spells place lines r =
       top = subst (λ now. IsTop s.layout (text_node now)) (sym s.place) (root_node s.layout s.root);
     }
 
-through_spells : (lines : List (List ℕ)) (place : Place) → through started lines ≡ Some place → Spells lines (text_node place.1)
+through_spells : (lines : List (List ℕ)) (place : Place) → through started lines ≡ Some place → SpellsNode lines (text_node place.1)
 through_spells lines place e =
     reached_spells place lines (at_some (through started lines) place (λ new. Reached new lines) e (reached_through lines started [] reached_first))
 
@@ -365,7 +365,7 @@ lines_again (line ∷ lines) phase going open_now marks after (first, rest, cut,
           ∙ more.2,
     )
 
-spelled_through : (lines : List (List ℕ)) (node : Node) → Spells lines node → (place : Place) × (through started lines ≡ Some place) × (text_node place.1 ≡ node)
+spelled_through : (lines : List (List ℕ)) (node : Node) → SpellsNode lines node → (place : Place) × (through started lines ≡ Some place) × (text_node place.1 ≡ node)
 spelled_through lines node s =
     let open_last : Open = open_of s.layout in
     let all : steps ([], None) (marks_of s.layout) ≡ Some open_last =
@@ -461,20 +461,20 @@ stop_line lines k s =
           (front_read m s.before s.last s.read)),
     )
 
-stop_none : (lines : List (List ℕ)) (k : ℕ) → Stops started lines 0 k → (node : Node) → Spells lines node → ⊥
+stop_none : (lines : List (List ℕ)) (k : ℕ) → Stops started lines 0 k → (node : Node) → SpellsNode lines node → ⊥
 stop_none lines k s node spells =
     let whole : lines ≡ (s.before ++ s.line ∷ []) ++ s.after = s.all ∙ sym (append_assoc s.before (s.line ∷ []) s.after) in
-    stop_begins lines k s (s.after, node, subst (λ ls. Spells ls node) whole spells)
+    stop_begins lines k s (s.after, node, subst (λ ls. SpellsNode ls node) whole spells)
 
 -- ---- the clauses
 
-pub run_spells : (lines : List (List ℕ)) (node : Node) → run_all lines ≡ Ok node → Spells lines node
+pub run_spells : (lines : List (List ℕ)) (node : Node) → run_all lines ≡ Ok node → SpellsNode lines node
 unfolding run_all
 run_spells lines node e =
     let c : Comes started lines 0 (Ok node) = subst (Comes started lines 0) e (comes lines 0 started) in
-    subst (Spells lines) (sym c.2) (through_spells lines c.0 c.1)
+    subst (SpellsNode lines) (sym c.2) (through_spells lines c.0 c.1)
 
-pub one_node : (lines : List (List ℕ)) (first second : Node) → Spells lines first → Spells lines second → first ≡ second
+pub one_node : (lines : List (List ℕ)) (first second : Node) → SpellsNode lines first → SpellsNode lines second → first ≡ second
 one_node lines first second a b =
     let found = spelled_through lines first a in
     let again = spelled_through lines second b in
@@ -482,7 +482,7 @@ one_node lines first second a b =
     let same : found.0 ≡ again.0 = cc both in
     sym found.2 ∙ ap (λ place. text_node place.1) same ∙ again.2
 
-pub run_none : (lines : List (List ℕ)) (k : ℕ) → run_all lines ≡ Err k → (node : Node) → Spells lines node → ⊥
+pub run_none : (lines : List (List ℕ)) (k : ℕ) → run_all lines ≡ Err k → (node : Node) → SpellsNode lines node → ⊥
 unfolding run_all
 run_none lines k e node spells = stop_none lines k (subst (Comes started lines 0) e (comes lines 0 started)) node spells
 
@@ -490,7 +490,7 @@ pub run_line : (lines : List (List ℕ)) (k : ℕ) → run_all lines ≡ Err k �
 unfolding run_all
 run_line lines k e = stop_line lines k (subst (Comes started lines 0) e (comes lines 0 started))
 
-pub comes_node : (lines : List (List ℕ)) (r : Result Node (Fail YamlFault)) → RunComes r (run_all lines) → IfOk r (λ node. Spells lines node)
+pub comes_node : (lines : List (List ℕ)) (r : Result Node (Fail YamlFault)) → RunComes r (run_all lines) → IfOk r (λ node. SpellsNode lines node)
 comes_node lines (Ok node) h = run_spells lines node h
 comes_node lines (Err e) h = tt
 
@@ -503,7 +503,7 @@ pub ruleset answer_rules = (comes_node, comes_refused)
 
 -- the line of a text of fewer lines than its type holds
 pub line_told : (lines : List (List ℕ)) (fault : YamlFault) → length lines < 2 ^ 32 - 1 → IsRefused lines (Fault fault)
-    → ((node : Node) → Spells lines node → ⊥) × IsFaultLine lines fault.line
+    → ((node : Node) → SpellsNode lines node → ⊥) × IsFaultLine lines fault.line
 line_told lines fault few (none, (n, is, told)) =
     let within : n ≤ length lines = ⊎_elim (λ f. f.0) (λ f. omega (arith, f.0)) is in
     let same : n ≡ fault.line = omega arith in (none, subst (IsFaultLine lines) same is)

@@ -2,7 +2,8 @@
 use Rattle.std.proofs.Common.{◌≡◌, ℕ, zero, suc, Bool, true, false, eqb, List, [], ◌∷◌, ◌++◌, length, refl, sym, ap, ◌∙◌, subst, ◌&&◌, not, ⊎_elim}
 use Rattle.std.specs.List.{list_any}
 use Rattle.std.proofs.lemmas.Bool.{cond-true, cond-false, false≢true, and_parts, and_cases, and_left, and_right, or_parts, or_from, ne_eqb}
-use Rattle.ct_yaml.specs.Line.{is_blank, is_rest, is_end, is_gap, is_indicator, is_dash_or_question, begins_plain, has_pair, ends_plain, is_plain, is_flow_mark}
+use Rattle.ct_base.specs.Bytes.{has_pair}
+use Rattle.ct_yaml.specs.Line.{is_blank, is_rest, is_end, is_gap, is_indicator, is_dash_or_question, begins_plain, ends_plain, is_plain, is_flow_mark}
 use Rattle.ct_yaml.specs.Reading.{is_stop, plain_len, is_flow_stop, flow_len}
 
 -- ---- small words

@@ -1,6 +1,7 @@
 -- What stands on one line.
 use Rattle.std.specs.Prelude.{◌≡◌, ◌⊎◌, ℕ, ◌+◌, ◌==◌, ◌&&◌, ◌||◌, not, Bool, true, false, IsTrue, List, [], ◌∷◌, ◌++◌, map, flat_map, replicate, codes, if◌then◌else◌}
 use Rattle.std.specs.List.{list_any}
+use Rattle.ct_base.specs.Bytes.{has_pair}
 use Rattle.ct_yaml.specs.declared.node.Node.TheVariants.{Scalar}
 use Rattle.ct_yaml.specs.declared.mark.Inline.{Inline}
 use Rattle.ct_yaml.specs.declared.mark.Inline.TheVariants as inline
@@ -53,12 +54,6 @@ abbrev pub begins_plain : List ℕ → Bool
 begins_plain [] = false
 begins_plain (byte ∷ []) = not (is_indicator byte || is_dash_or_question byte)
 begins_plain (byte ∷ next ∷ bytes) = not (is_indicator byte) && not (is_dash_or_question byte && (next == 32))
-
--- whether the second byte stands right behind the first somewhere
-abbrev pub has_pair : ℕ → ℕ → List ℕ → Bool
-has_pair first second [] = false
-has_pair first second (byte ∷ []) = false
-has_pair first second (byte ∷ next ∷ bytes) = ((byte == first) && (next == second)) || has_pair first second (next ∷ bytes)
 
 -- ends in no `:`, space or tab
 abbrev pub ends_plain : List ℕ → Bool

@@ -48,7 +48,7 @@ IsTop (map_at column before key value) node = node ≡ node_of (map_at column be
 IsTop (list_at column before value) node = ⊥
 
 -- The lines spell the node.
-pub record Spells (lines : List (List ℕ)) (node : Node) : Type 0 where
+pub record SpellsNode (lines : List (List ℕ)) (node : Node) : Type 0 where
   pub layout : Layout
   pub start : List (List ℕ)
   pub body : List (List ℕ)
@@ -67,7 +67,7 @@ pub record Spells (lines : List (List ℕ)) (node : Node) : Type 0 where
 
 -- the lines begin a text
 abbrev pub Begins : List (List ℕ) → Type 0
-Begins lines = (more : List (List ℕ)) × (node : Node) × Spells (lines ++ more) node
+Begins lines = (more : List (List ℕ)) × (node : Node) × SpellsNode (lines ++ more) node
 
 -- The line at which a text is refused, counted from 1: the least number of first lines that begin no text, and
 -- the last line where there is none.
@@ -83,5 +83,5 @@ line_number n = min n (2 ^ 32 - 1)
 -- What it says that a text is refused: no node is spelled, and this is the line. Memory may run out.
 abbrev pub IsRefused : List (List ℕ) → Fail YamlFault → Type 0
 IsRefused lines (Fault fault) =
-    ((node : Node) → Spells lines node → ⊥) × ((n : ℕ) × IsFaultLine lines n × (fault.line ≡ line_number n))
+    ((node : Node) → SpellsNode lines node → ⊥) × ((n : ℕ) × IsFaultLine lines n × (fault.line ≡ line_number n))
 IsRefused lines OutOfMemory = Unit {0}

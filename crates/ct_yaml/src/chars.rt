@@ -1,22 +1,16 @@
 //! Bytes of a line.
 
-ghost use Rattle.std.specs.Prelude.{◌≡◌, [], ◌∷◌, MatchOption, true, false};
+ghost use Rattle.std.specs.Prelude.{◌≡◌, true, false};
 ghost use Rattle.std.specs.List.{list_any};
 ghost use Rattle.ct_yaml.specs.Line as line;
 ghost use Rattle.ct_yaml.specs.Reading as reading;
 ghost use Rattle.ct_yaml.specs.Run as run;
 
+use ct_base::{first_of, has_pair};
+
 /// No value, entry or item is spelled so.
 #[derive(Clone, Copy, Debug, PartialEq, Eq)]
 pub struct Unspelled;
-
-/// The first byte, and those behind it.
-pub fn first_of(bytes: &[u8]) -> Option<(u8, &[u8])>
-    ensures { MatchOption result (bytes.now ≡ []) (λ found. bytes.now ≡ found.0 ∷ found.1.now) }
-{
-    let (first, rest) = bytes.split_first()?;
-    Some((*first, rest))
-}
 
 /// Whether a byte is a space or a tab.
 pub fn is_blank(byte: u8) -> bool
@@ -116,23 +110,6 @@ fn begins_plain(text: &[u8]) -> bool
         None => !is_dash_or_question(byte),
         Some((next, _)) => !(is_dash_or_question(byte) && next == b' '),
     }
-}
-
-/// Whether the second byte stands right behind the first somewhere.
-fn has_pair(first: u8, second: u8, text: &[u8]) -> bool
-    ensures { result ≡ line.has_pair first second text.now }
-{
-    let mut rest = text;
-    while let Some((byte, more)) = first_of(rest) {
-        let Some((next, _)) = first_of(more) else {
-            return false;
-        };
-        if byte == first && next == second {
-            return true;
-        }
-        rest = more;
-    }
-    false
 }
 
 fn ends_plain(text: &[u8]) -> bool

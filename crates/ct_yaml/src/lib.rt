@@ -11,7 +11,7 @@ mod text;
 mod values;
 
 ghost use Rattle.std.specs.Prelude.{◌≡◌, ℕ, List};
-ghost use Rattle.ct_yaml.specs.Text.{Spells};
+ghost use Rattle.ct_yaml.specs.Text.{SpellsNode};
 ghost use Rattle.ct_yaml.specs.declared.node.Node as declared;
 
 pub use node::{Entry, Node};
@@ -20,5 +20,5 @@ pub use text::{YamlFault, read};
 /// A text spells one node at most, so `read` gives that one.
 pub fn one_node()
     ensures { (lines : List (List ℕ)) (first second : declared.Node) →
-        Spells lines first → Spells lines second → first ≡ second }
+        SpellsNode lines first → SpellsNode lines second → first ≡ second }
 {}

@@ -4,11 +4,11 @@ ghost use Rattle.std.specs.Prelude.{◌≡◌, [], ◌∷◌, ◌++◌, false, O
 ghost use Rattle.ct_yaml.specs.Gives.{Gives};
 ghost use Rattle.ct_yaml.specs.Reading as reading;
 
-use crate::chars::{Unspelled, first_of, has_tab_indent, is_end, is_gap, is_rest, skip};
+use crate::chars::{Unspelled, has_tab_indent, is_end, is_gap, is_rest, skip};
 use crate::mark::{Inline, Mark};
 use crate::scalars::scalar;
 use crate::values::inline;
-use ct_base::{Bytes, Fail, Mem, Out};
+use ct_base::{Bytes, Fail, Mem, Out, first_of};
 use std::alloc::Global;
 
 /// A value, where nothing else stands behind it.

@@ -5,8 +5,8 @@ ghost use Rattle.ct_yaml.specs.Gives.{Gives};
 ghost use Rattle.ct_yaml.specs.Line as line;
 ghost use Rattle.ct_yaml.specs.Reading as reading;
 
-use crate::chars::{Unspelled, first_of, is_blank, is_flow_plain, is_flow_stop, is_plain, is_stop};
-use ct_base::{Bytes, Fail, Out};
+use crate::chars::{Unspelled, is_blank, is_flow_plain, is_flow_stop, is_plain, is_stop};
+use ct_base::{Bytes, Fail, Out, first_of};
 use std::alloc::Global;
 
 /// The text behind an opening single quote, and the bytes behind its closing one.

@@ -5,7 +5,7 @@ ghost use Rattle.std.specs.Str as str_spec;
 ghost use Rattle.ct_yaml.specs.Gives.{Gives};
 ghost use Rattle.ct_yaml.specs.Run as spec;
 ghost use Rattle.ct_yaml.specs.Stack as stack;
-ghost use Rattle.ct_yaml.specs.Text.{line_number, text_lines, Spells, IsRefused};
+ghost use Rattle.ct_yaml.specs.Text.{line_number, text_lines, SpellsNode, IsRefused};
 
 use crate::chars::{Unspelled, is_blank_line, is_marker};
 use crate::lines::marks;
@@ -149,7 +149,7 @@ fn read_lines(alloc: Global, bytes: &[u8]) -> Out<Node, YamlFault>
 /// the lines up to it begin no text, and the last line where there is none.
 #[tactic(auto, using(crate::proofs::RunLemmas::answer_rules))]
 pub fn read(alloc: Global, bytes: &[u8]) -> Out<Node, YamlFault>
-    ensures node { IfOk result (λ node. Spells (text_lines bytes.now) node) }
+    ensures node { IfOk result (λ node. SpellsNode (text_lines bytes.now) node) }
     ensures refused { IfErr result (IsRefused (text_lines bytes.now)) }
 {
     read_lines(alloc, bytes)

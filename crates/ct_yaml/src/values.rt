@@ -5,11 +5,11 @@ ghost use Rattle.ct_yaml.specs.Gives.{Gives};
 ghost use Rattle.ct_yaml.specs.Reading as reading;
 ghost use Rattle.ct_yaml.specs.declared.node.Node.TheVariants.{Scalar};
 
-use crate::chars::{Unspelled, first_of, skip};
+use crate::chars::{Unspelled, skip};
 use crate::mark::Inline;
 use crate::node::Node;
 use crate::scalars::{flow_scalar, scalar};
-use ct_base::{Bytes, Fail, Items, Out};
+use ct_base::{Bytes, Fail, Items, Out, first_of};
 use std::alloc::Global;
 
 /// The next scalar of a flow list, whether it is the last, and the bytes behind the comma or
