@@ -20,6 +20,7 @@ use Rattle.ct_find.specs.Sets.{AreSorted}
 use Rattle.ct_find.proofs.Members.{contains_append, contains_cases, contains_first, contains_left, contains_more, contains_none, contains_right}
 use Rattle.ct_find.proofs.OrderLemmas.{member_seen, seen_member}
 use Rattle.ct_find.proofs.ReachLemmas.{below_is}
+use Rattle.ct_find.proofs.NameLemmas.{some_length}
 use Rattle.ct_find.proofs.SetLemmas.{sorted_as, sorted_cons, sorted_one}
 use Rattle.ct_find.proofs.WalkedLemmas.{same_entry}
 
@@ -215,10 +216,6 @@ path_short (path ∷ paths) k m = elim (contains_cases path paths k m) [
   | inl e ↦ let same : length path ≡ length k = ap length e in omega arith
   | inr n ↦ let shorter : length k ≤ total_length paths = path_short paths k n in omega arith
 ]
-
-some_length : (name : List ℕ) → (name ≡ [] → ⊥) → 0 < length name
-some_length [] some = absurd (some refl)
-some_length (c ∷ cs) some = omega arith
 
 inside_longer : (folder name : List ℕ) → (name ≡ [] → ⊥) → length folder < length (inside folder name)
 inside_longer [] name some = some_length name some

@@ -16,7 +16,7 @@ use Rattle.ct_find.specs.Limits.{most_files}
 use Rattle.ct_find.specs.declared.starts.Start.{Start}
 use Rattle.ct_find.specs.declared.walking.Listing.{Listing}
 use Rattle.ct_find.specs.Order.{IsWhole}
-use Rattle.ct_find.specs.Rows.{AreLists, AreThere, IsWalked, IsInLists, ReadsAll, texts_of, with_text}
+use Rattle.ct_find.specs.Rows.{AreLists, AreThere, IsWalked, IsInLists, ReadsListedFiles, texts_of, with_text}
 use Rattle.ct_find.specs.Sets.{AreSorted}
 use Rattle.ct_find.proofs.Members.{contains_append, contains_cases, contains_first, contains_left, contains_more, contains_none, contains_right}
 use Rattle.ct_find.proofs.SetLemmas.{sorted_as}
@@ -48,7 +48,7 @@ count_stops settings files lists paths (Fault Read) listed tells = tt
 count_stops settings files lists paths (Fault (Limit kind path)) listed tells = inr (lists, paths, listed, inl tells)
 
 pub read_fails : (settings : ProjectSettings) (files : Files) (lists : FileLists) (paths : List (List ℕ)) (fail : Fail FindFault) → IsListed settings files lists paths → length paths ≤ most_files
-    → (AreThere files paths → ReadsAll files paths (Err fail)) → FindsListed settings files (Err fail)
+    → (AreThere files paths → ReadsListedFiles files paths (Err fail)) → FindsListed settings files (Err fail)
 read_fails settings files lists paths OutOfMemory listed few reads = tt
 read_fails settings files lists paths (Fault Read) listed few reads = tt
 read_fails settings files lists paths (Fault (Limit kind path)) listed few reads = inr (lists, paths, listed, inr (few, reads))

@@ -2,7 +2,7 @@
 use Rattle.std.proofs.Common.{◌≡◌, ℕ, ◌+◌, inl, inr, ◌↔◌, List, [], ◌∷◌, ◌++◌, Bool, true, false, cond, not, ◌||◌, take, refl, sym, ap, subst, ◌∙◌, arith, suc}
 use Rattle.std.specs.Prelude.{◌==◌, take_while}
 use Rattle.std.specs.List.{Contains, list_any, prefix_len}
-use Rattle.std.proofs.lemmas.Bool.{false≢true}
+use Rattle.std.proofs.lemmas.Bool.{false≢true, or_parts}
 use Rattle.std.proofs.lemmas.Bool.Decides.{Decides-eqb}
 use Rattle.std.proofs.lemmas.List.{append-nil}
 use Rattle.std.proofs.lemmas.Slice.Eq.{bytes_eq-Decides}
@@ -21,10 +21,6 @@ use Rattle.ct_find.proofs.NameLemmas.{component_name, components_of-path_of, sta
 use Rattle.ct_find.proofs.OrderLemmas.{places_from, places_have}
 use Rattle.ct_find.proofs.ReachLemmas.{ArePaths, listed_paths, reach, reach_own}
 
-or_false : (x y : Bool) → (x || y) ≡ false → (x ≡ false) × (y ≡ false)
-or_false true y h = absurd (false≢true (sym h))
-or_false false y h = (refl, h)
-
 -- a part that is no run matches one item
 one_item : {P X : Type 0} (is_run : P → Bool) (Fits : P → X → Type 0) (p : P) (ps : List P) (xs : List X) → is_run p ≡ false → Matches is_run Fits (p ∷ ps) xs
     → (x : X) × (rest : List X) × (xs ≡ x ∷ rest) × Fits p x × Matches is_run Fits ps rest
@@ -34,8 +30,8 @@ one_item is_run Fits p ps xs e h = rw e at h
 plain_matches : (p n : List ℕ) → has_wildcard p ≡ false → MatchesName p n → p ≡ n
 plain_matches [] n plain h = sym h
 plain_matches (b ∷ bs) n plain h =
-    let here = or_false ((b == 42) || (b == 63)) (has_wildcard bs) plain in
-    let tests = or_false (b == 42) (b == 63) here.0 in
+    let here = or_parts ((b == 42) || (b == 63)) (has_wildcard bs) plain in
+    let tests = or_parts (b == 42) (b == 63) here.0 in
     let one = one_item is_star FitsByte b bs n tests.0 h in
     let same : b ≡ one.0 = elim one.3 [
       | inl mark ↦ absurd (false≢true (sym tests.1 ∙ (Decides-eqb b 63).1 mark))
@@ -69,14 +65,14 @@ matched_front (p ∷ ps) fs h = at (has_wildcard p) refl (matched_front ps)
   where
     at : (t : Bool) → has_wildcard p ≡ t → ((gs : List (List ℕ)) → Matches is_double_star MatchesName ps gs → (more : List (List ℕ)) × (gs ≡ fixed ps ++ more) × (list_any has_wildcard ps ≡ false → more ≡ []))
         → (more : List (List ℕ)) × (fs ≡ fixed (p ∷ ps) ++ more) × (list_any has_wildcard (p ∷ ps) ≡ false → more ≡ [])
-    at true e rest = (fs, ap (λ (x : List (List ℕ)). x ++ fs) (sym (none_fixed p ps e)), λ none. absurd (false≢true (sym (or_false (has_wildcard p) (list_any has_wildcard ps) none).0 ∙ e)))
+    at true e rest = (fs, ap (λ (x : List (List ℕ)). x ++ fs) (sym (none_fixed p ps e)), λ none. absurd (false≢true (sym (or_parts (has_wildcard p) (list_any has_wildcard ps) none).0 ∙ e)))
     at false e rest =
         let one = one_item is_double_star MatchesName p ps fs (no_star p (is_double_star p) refl e) h in
         let r = rest one.1 one.4 in
         let same : p ≡ one.0 = plain_matches p one.0 e one.3 in (
           r.0,
           one.2 ∙ ap (λ (x : List ℕ). x ∷ one.1) (sym same) ∙ ap (λ (xs : List (List ℕ)). p ∷ xs) r.1 ∙ ap (λ (xs : List (List ℕ)). xs ++ r.0) (sym (first_fixed p ps e)),
-          λ none. r.2 (or_false (has_wildcard p) (list_any has_wildcard ps) none).1,
+          λ none. r.2 (or_parts (has_wildcard p) (list_any has_wildcard ps) none).1,
         )
 
 fixed_names : (pattern : List ℕ) → components_of (start_of pattern) ≡ fixed (components_of pattern)

@@ -3,7 +3,7 @@ use Rattle.std.proofs.Common.{◌≡◌, ℕ, ◌+◌, ◌-◌, ◌⊎◌, inl, 
 use Rattle.std.specs.Prelude.{◌&&◌, codes, if◌then◌else◌}
 use Rattle.std.specs.Option.{option_map}
 use Rattle.std.specs.List.{Contains, before_first, ends_with, list_any, position_or_len}
-use Rattle.std.proofs.lemmas.Bool.{false≢true}
+use Rattle.std.proofs.lemmas.Bool.{false≢true, or_cases, and_parts}
 use Rattle.std.specs.Str.{bytes_eq}
 use Rattle.std.proofs.lemmas.Slice.Eq.{bytes_eq-Decides}
 use Rattle.ct_outside.specs.declared.tree.Entry.{Entry}
@@ -19,6 +19,7 @@ use Rattle.ct_find.specs.Order.{inside}
 use Rattle.ct_find.specs.Rows.{AreGroups, AreListings, HaveGroups, IsMatched, IsMatchedRow, IsPicked, kind_of}
 use Rattle.ct_find.proofs.Members.{contains_none}
 use Rattle.ct_find.proofs.ReachLemmas.{below_is, slash_in}
+use Rattle.ct_find.proofs.WalkedLemmas.{same_entry}
 
 -- the first of three tests that passes
 kind3 : Bool → Bool → Bool → Option Kind
@@ -45,24 +46,13 @@ is_header_kind false true d e = absurd (cc)
 is_header_kind false false true e = refl
 is_header_kind false false false e = absurd (cc)
 
-and_true : (a b : Bool) → (a && b) ≡ true → (a ≡ true) × (b ≡ true)
-and_true true b e = (refl, e)
-and_true false b e = absurd (false≢true e)
-
 true_and : (a b : Bool) → a ≡ true → b ≡ true → (a && b) ≡ true
 true_and true b p q = q
 true_and false b p q = absurd (false≢true p)
 
-or_true : (a b : Bool) → (a || b) ≡ true → (a ≡ true) ⊎ (b ≡ true)
-or_true true b e = inl refl
-or_true false b e = inr e
-
 true_or : (a b : Bool) → (a ≡ true) ⊎ (b ≡ true) → (a || b) ≡ true
 true_or true b h = refl
 true_or false b h = elim h [ inl e ↦ absurd (false≢true e) | inr e ↦ e ]
-
-same_entry : (x y : Entry) → x.name ≡ y.name → x.folder ≡ y.folder → x ≡ y
-same_entry x y p q = λ i. record { name = p i; folder = q i }
 
 plain_step : (b : ℕ) (bs : List ℕ) (t : Bool) → is_slash b ≡ t → (t || list_any is_slash bs) ≡ false → before_first is_slash bs ≡ bs
     → take (cond (not t) (1 + position_or_len is_slash bs) 0) (b ∷ bs) ≡ b ∷ bs
@@ -157,7 +147,7 @@ tests_are settings files rows listings have are path = (
       let e : Entry = h.2.2.0 in
       let from = h.2.2.2 in
       let k = is_test_kind _ _ _ (sym (kind_is groups settings.test_prefix e.name _ _ _ refl refl refl) ∙ from.1) in
-      let both = and_true groups.test (is_test_name settings.test_prefix e.name) k in
+      let both = and_parts groups.test (is_test_name settings.test_prefix e.name) k in
       let group = group_of files settings.build_root rows settings.test row e are.test h.1 h.2.2.1 (h.2.1.test.0 both.0) in
       let file = entry_file files row (listings row h.1) e h.2.2.1 from.0 in
       (row.folder, e.name, group, subst (λ (p : List ℕ). IsFileIn files row.folder e.name p) (sym from.2) file, both.1),
@@ -200,8 +190,8 @@ sources_are settings files rows listings have are path = (
       let e : Entry = h.2.2.0 in
       let from = h.2.2.2 in
       let k = is_source_kind _ _ _ (sym (kind_is groups settings.test_prefix e.name _ _ _ refl refl refl) ∙ from.1) in
-      let both = and_true (groups.source || groups.support) (ends_with nat_eq e.name (codes ".c")) k.1 in
-      let group : in_source settings files row.folder ⊎ in_support settings files row.folder = elim (or_true groups.source groups.support both.0) [
+      let both = and_parts (groups.source || groups.support) (ends_with nat_eq e.name (codes ".c")) k.1 in
+      let group : in_source settings files row.folder ⊎ in_support settings files row.folder = elim (or_cases groups.source groups.support both.0) [
         | inl s ↦ inl (group_of files settings.build_root rows settings.source row e are.source h.1 h.2.2.1 (h.2.1.source.0 s))
         | inr s ↦ inr (group_of files settings.build_root rows settings.support row e are.support h.1 h.2.2.1 (h.2.1.support.0 s))
       ] in
@@ -220,7 +210,7 @@ sources_are settings files rows listings have are path = (
       true_and (groups.0.source || groups.0.support) (ends_with nat_eq s.1 (codes ".c")) (true_or groups.0.source groups.0.support (elim found.3 [ inl g ↦ inl (groups.1.source.1 g) | inr g ↦ inr (groups.1.support.1 g) ])) s.4 in
       let a : (groups.0.test && is_test_name settings.test_prefix s.1) ≡ false =
       untrue (groups.0.test && is_test_name settings.test_prefix s.1) (λ t.
-      let both = and_true groups.0.test (is_test_name settings.test_prefix s.1) t in
+      let both = and_parts groups.0.test (is_test_name settings.test_prefix s.1) t in
       let group = group_of files settings.build_root rows settings.test row (record { name = s.1; folder = false }) are.test found.1 entry.0 (groups.1.test.0 both.0) in
       s.5 (row.folder, s.1, group, file, both.1)) in
       (row, found.1, (groups.0, groups.1, (record { name = s.1; folder = false }, entry.0, (refl, kind_is groups.0 settings.test_prefix s.1 false true _ a b refl, entry.1)))),
@@ -250,15 +240,15 @@ headers_are settings files rows listings have are path = (
       let e : Entry = h.2.2.0 in
       let from = h.2.2.2 in
       let k = is_header_kind _ _ _ (sym (kind_is groups settings.test_prefix e.name _ _ _ refl refl refl) ∙ from.1) in
-      let both = and_true ((groups.include || groups.source) || (groups.test || groups.support)) (ends_with nat_eq e.name (codes ".h")) k in
+      let both = and_parts ((groups.include || groups.source) || (groups.test || groups.support)) (ends_with nat_eq e.name (codes ".h")) k in
       let file : IsFileIn files row.folder e.name path = subst (λ (p : List ℕ). IsFileIn files row.folder e.name p) (sym from.2) (entry_file files row (listings row h.1) e h.2.2.1 from.0) in
       let group : (in_include settings files row.folder ⊎ in_source settings files row.folder) ⊎ (in_test settings files row.folder ⊎ in_support settings files row.folder) =
-      elim (or_true (groups.include || groups.source) (groups.test || groups.support) both.0) [
-        | inl s ↦ inl (elim (or_true groups.include groups.source s) [
+      elim (or_cases (groups.include || groups.source) (groups.test || groups.support) both.0) [
+        | inl s ↦ inl (elim (or_cases groups.include groups.source s) [
           | inl t ↦ inl (group_of files settings.build_root rows settings.include row e are.include h.1 h.2.2.1 (h.2.1.include.0 t))
           | inr t ↦ inr (group_of files settings.build_root rows settings.source row e are.source h.1 h.2.2.1 (h.2.1.source.0 t))
         ])
-        | inr s ↦ inr (elim (or_true groups.test groups.support s) [
+        | inr s ↦ inr (elim (or_cases groups.test groups.support s) [
           | inl t ↦ inl (group_of files settings.build_root rows settings.test row e are.test h.1 h.2.2.1 (h.2.1.test.0 t))
           | inr t ↦ inr (group_of files settings.build_root rows settings.support row e are.support h.1 h.2.2.1 (h.2.1.support.0 t))
         ])

@@ -1,13 +1,13 @@
 -- Components of paths, and folders by their components.
-use Rattle.std.proofs.Common.{◌≡◌, ℕ, zero, suc, inl, inr, List, [], ◌∷◌, ◌++◌, Bool, true, false, cond, not, ◌||◌, length, take, refl, sym, ap, subst, ◌∙◌, arith, rules, append_assoc, nat_lt, filter}
+use Rattle.std.proofs.Common.{◌≡◌, ℕ, zero, suc, ◌<◌, inl, inr, List, [], ◌∷◌, ◌++◌, Bool, true, false, cond, not, ◌||◌, length, take, refl, sym, ap, subst, ◌∙◌, arith, rules, append_assoc, nat_lt, filter}
 use Rattle.std.specs.Prelude.{take_while, All}
 use Rattle.std.specs.List.{Contains, list_any, prefix_len, slice_split, onto_first}
-use Rattle.std.proofs.lemmas.Bool.{false≢true}
-use Rattle.std.proofs.lemmas.Bool.Decides.{nat_tests}
+use Rattle.std.proofs.lemmas.Bool.{false≢true, or_parts}
 use Rattle.std.proofs.lemmas.List.Elements.{All-cons}
 use Rattle.std.proofs.lemmas.List.Splits.{slice_split_at, slice_split_none}
 use Rattle.ct_outside.specs.Files.{Files, is_slash}
 use Rattle.ct_outside.specs.Paths.{components_of, path_of}
+use Rattle.ct_outside.proofs.ComponentLemmas.{components_keep, path_of-push}
 use Rattle.ct_find.specs.Folders.{IsPath}
 use Rattle.ct_find.specs.Order.{IsChild, has_wildcard, inside, start_of}
 use Rattle.ct_find.proofs.Members.{contains_append, contains_cases, contains_first, contains_more, contains_none}
@@ -80,35 +80,25 @@ component_name path n m =
 
 all_plain : (bs : List ℕ) → list_any is_slash bs ≡ false → All (λ x. is_slash x ≡ false) bs
 all_plain [] e = search rules
-all_plain (b ∷ bs) e = let r = both (is_slash b) (list_any is_slash bs) e in All-cons (λ x. is_slash x ≡ false) b bs r.0 (all_plain bs r.1)
-  where
-    both : (x y : Bool) → (x || y) ≡ false → (x ≡ false) × (y ≡ false)
-    both true y h = absurd (false≢true (sym h))
-    both false y h = (refl, h)
+all_plain (b ∷ bs) e = let r = or_parts (is_slash b) (list_any is_slash bs) e in All-cons (λ x. is_slash x ≡ false) b bs r.0 (all_plain bs r.1)
 
-kept_name : (n : List ℕ) (rest : List (List ℕ)) → (n ≡ [] → ⊥) → filter (λ piece. nat_lt 0 (length piece)) (n ∷ rest) ≡ n ∷ filter (λ piece. nat_lt 0 (length piece)) rest
-kept_name [] rest some = absurd (some refl)
-kept_name (b ∷ bs) rest some =
-    let t : nat_lt 0 (length (b ∷ bs)) ≡ true = grind (arith, nat_tests) in
-    filter_cons (λ (piece : List ℕ). nat_lt 0 (length piece)) (b ∷ bs) rest true t
+pub some_length : (name : List ℕ) → (name ≡ [] → ⊥) → 0 < length name
+some_length [] some = absurd (some refl)
+some_length (b ∷ bs) some = omega arith
 
 -- a path of names has these components
 pub components_of-path_of : (names : List (List ℕ)) → ((n : List ℕ) → Contains names n → IsName n) → components_of (path_of names) ≡ names
 components_of-path_of [] h = refl
 components_of-path_of (n ∷ []) h =
     let own = h n (contains_first n []) in
-    ap (λ (ps : List (List ℕ)). filter (λ piece. nat_lt 0 (length piece)) ps) (slice_split_none is_slash n (all_plain n own.plain)) ∙ kept_name n [] own.some
+    ap (λ (ps : List (List ℕ)). filter (λ piece. nat_lt 0 (length piece)) ps) (slice_split_none is_slash n (all_plain n own.plain)) ∙ components_keep n [] (some_length n own.some)
 components_of-path_of (n ∷ m ∷ names) h =
     let own = h n (contains_first n (m ∷ names)) in
     ap (λ (ps : List (List ℕ)). filter (λ piece. nat_lt 0 (length piece)) ps) (slice_split_at is_slash n 47 (path_of (m ∷ names)) (all_plain n own.plain) refl)
-    ∙ kept_name n (slice_split is_slash (path_of (m ∷ names))) own.some ∙ ap (λ (ns : List (List ℕ)). n ∷ ns) (components_of-path_of (m ∷ names) (λ k i. h k (contains_more n (m ∷ names) k i)))
+    ∙ components_keep n (slice_split is_slash (path_of (m ∷ names))) (some_length n own.some) ∙ ap (λ (ns : List (List ℕ)). n ∷ ns) (components_of-path_of (m ∷ names) (λ k i. h k (contains_more n (m ∷ names) k i)))
 
 pub names_path : (names : List (List ℕ)) → ((n : List ℕ) → Contains names n → IsName n) → IsPath (path_of names)
 names_path names h = ap path_of (components_of-path_of names h)
-
-path_of-push : (xs : List (List ℕ)) (x y : List ℕ) → path_of ((x ∷ xs) ++ y ∷ []) ≡ path_of (x ∷ xs) ++ 47 ∷ y
-path_of-push [] x y = refl
-path_of-push (z ∷ zs) x y = ap (λ (t : List ℕ). x ++ 47 ∷ t) (path_of-push zs z y) ∙ sym (append_assoc x (47 ∷ path_of (z ∷ zs)) (47 ∷ y))
 
 pub inside_some : (f n : List ℕ) → (f ≡ [] → ⊥) → inside f n ≡ f ++ 47 ∷ n
 inside_some [] n some = absurd (some refl)

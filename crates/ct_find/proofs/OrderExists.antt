@@ -3,7 +3,7 @@ use Rattle.std.proofs.Common.{◌≡◌, ℕ, inl, inr, List, [], ◌∷◌, ◌
 use Rattle.std.specs.Prelude.{◌&&◌}
 use Rattle.std.specs.List.{Contains}
 use Rattle.std.specs.Str.{bytes_eq}
-use Rattle.std.proofs.lemmas.Bool.{false≢true}
+use Rattle.std.proofs.lemmas.Bool.{false≢true, and_parts, or_cases}
 use Rattle.std.proofs.lemmas.Slice.Eq.{bytes_eq-Decides}
 use Rattle.ct_outside.specs.Files.{Files}
 use Rattle.ct_settings.specs.declared.record.Pattern.{Pattern}
@@ -13,10 +13,9 @@ use Rattle.ct_find.specs.Order.{AreStarts, IsDeep, IsDeepStart, IsOrder, IsStart
 use Rattle.ct_find.specs.Sets.{AreSorted}
 use Rattle.ct_find.proofs.Children.{sorted_of}
 use Rattle.ct_find.proofs.Members.{contains_cases, contains_first, contains_more, contains_none, map_contains}
-use Rattle.ct_find.proofs.ReachLemmas.{or_right, or_true}
+use Rattle.ct_find.proofs.ReachLemmas.{or_right}
 use Rattle.ct_find.proofs.SetLemmas.{sorted_as}
 use Rattle.ct_find.proofs.WalkOrder.{walks_exist}
-use Rattle.ct_find.proofs.WalkedLemmas.{both_true}
 
 -- the starts of the adding patterns
 abbrev start_list : List Pattern → List (List ℕ)
@@ -66,10 +65,10 @@ all_true false b c d e f g = absurd (false≢true e)
 
 deep_in : (patterns : List Pattern) (f : List ℕ) → starts_deep patterns f ≡ true → IsDeepStart patterns f
 deep_in [] f e = absurd (false≢true e)
-deep_in (p ∷ ps) f e = elim (or_true (p.add && (bytes_eq f (start_of p.path) && is_deep p.path)) (starts_deep ps f) e) [
+deep_in (p ∷ ps) f e = elim (or_cases (p.add && (bytes_eq f (start_of p.path) && is_deep p.path)) (starts_deep ps f) e) [
   | inl h ↦
-      let adds = both_true p.add (bytes_eq f (start_of p.path) && is_deep p.path) h in
-      let is = both_true (bytes_eq f (start_of p.path)) (is_deep p.path) adds.1 in
+      let adds = and_parts p.add (bytes_eq f (start_of p.path) && is_deep p.path) h in
+      let is = and_parts (bytes_eq f (start_of p.path)) (is_deep p.path) adds.1 in
       (p, contains_first p ps, (adds.0, (bytes_eq-Decides f (start_of p.path)).0 is.0, is.1))
   | inr h ↦ let r = deep_in ps f h in (r.0, contains_more p ps r.0 r.1, r.2)
 ]

@@ -3,7 +3,7 @@ use Rattle.std.proofs.Common.{◌≡◌, ℕ, suc, ◌+◌, ◌⊎◌, inl, inr,
 use Rattle.std.specs.Option.{option_map}
 use Rattle.std.specs.Str.{bytes_eq}
 use Rattle.std.specs.List.{Contains, before_first, list_any, position_or_len, starts_with}
-use Rattle.std.proofs.lemmas.Bool.{false≢true}
+use Rattle.std.proofs.lemmas.Bool.{false≢true, or_parts, or_cases}
 use Rattle.std.proofs.lemmas.Bool.Decides.{Decides-eqb}
 use Rattle.std.proofs.lemmas.List.{append-nil}
 use Rattle.std.proofs.lemmas.List.Prefix.{front_rest}
@@ -92,10 +92,6 @@ front_tail : (front : List (List ℕ)) (n : List ℕ) (more : List (List ℕ)) �
 front_tail [] n more = joined_tail n [] more
 front_tail (x ∷ xs) n more = ap path_of (sym (append_assoc (x ∷ xs) (n ∷ []) more)) ∙ joined_tail x (xs ++ n ∷ []) more
 
-or_false : (x y : Bool) → (x || y) ≡ false → (x ≡ false) × (y ≡ false)
-or_false true y h = absurd (false≢true (sym h))
-or_false false y h = (refl, h)
-
 front_step : (b : ℕ) (bs rest : List ℕ) (t : Bool) → t ≡ false → before_first is_slash rest ≡ bs → take (cond (not t) (1 + position_or_len is_slash rest) 0) (b ∷ rest) ≡ b ∷ bs
 front_step b bs rest true e h = absurd (false≢true (sym e))
 front_step b bs rest false e h =
@@ -105,7 +101,7 @@ front_step b bs rest false e h =
 name_before : (n tail : List ℕ) → list_any is_slash n ≡ false → before_first is_slash (n ++ 47 ∷ tail) ≡ n
 name_before [] tail plain = refl
 name_before (b ∷ bs) tail plain =
-    let r = or_false (is_slash b) (list_any is_slash bs) plain in
+    let r = or_parts (is_slash b) (list_any is_slash bs) plain in
     front_step b bs (bs ++ 47 ∷ tail) (is_slash b) r.0 (name_before bs tail r.1)
 
 pub or_right : (x y : Bool) → y ≡ true → (x || y) ≡ true
@@ -155,13 +151,9 @@ child_on_way files front n more g f is names own e folder =
     some_below None x h = absurd (cc)
     some_below (Some r) x h = (r, refl)
 
-pub or_true : (a b : Bool) → (a || b) ≡ true → (a ≡ true) ⊎ (b ≡ true)
-or_true true b e = inl refl
-or_true false b e = inr e
-
 below_root : (build g x : List ℕ) → is_at_or_below build g ≡ true → (x ≡ [] → ⊥) → (tail : List ℕ) → x ≡ 47 ∷ tail → (g ≡ [] → ⊥) → is_at_or_below build (g ++ x) ≡ true
 below_root [] g x below some tail e there = or_right (bytes_eq (g ++ x) []) true refl
-below_root (c ∷ cs) g x below some tail e there = elim (or_true (bytes_eq g (c ∷ cs)) (is_some (rest_below (c ∷ cs) g)) below) [
+below_root (c ∷ cs) g x below some tail e there = elim (or_cases (bytes_eq g (c ∷ cs)) (is_some (rest_below (c ∷ cs) g)) below) [
   | inl same ↦
       let is : g ≡ c ∷ cs = (bytes_eq-Decides g (c ∷ cs)).0 same in
       let on : rest_below (c ∷ cs) (g ++ x) ≡ Some tail = ap (rest_below (c ∷ cs)) (ap (λ (y : List ℕ). y ++ x) is ∙ ap (λ (y : List ℕ). (c ∷ cs) ++ y) e) ∙ inside_below (c ∷ cs) tail in

@@ -1,27 +1,28 @@
 -- Sorted paths, each once.
-use Rattle.std.proofs.Common.{◌≡◌, ℕ, zero, suc, ◌+◌, ◌<◌, ◌⊎◌, inl, inr, ◌↔◌, List, [], ◌∷◌, ◌++◌, Bool, true, false, IsTrue, MatchOption, length, get_or, drop, refl, sym, ap, subst, ◌∙◌, arith, append_assoc}
-use Rattle.std.specs.Prelude.{String, string_bytes, if◌then◌else◌, slice_get}
+use Rattle.std.proofs.Common.{◌≡◌, ℕ, zero, suc, ◌+◌, ◌<◌, ◌↔◌, List, [], ◌∷◌, Bool, true, false, cond, length, get_or, refl, sym, ap, subst, ◌∙◌, arith}
+use Rattle.std.specs.Prelude.{String, string_bytes}
 use Rattle.std.specs.declared.alloc.Global.{Global}
 use Rattle.std.specs.declared.cmp.Ordering.{Ordering}
 use Rattle.std.specs.declared.cmp.Ordering.TheVariants.{Less, Equal, Greater}
-use Rattle.std.specs.Ordering.{nat_cmp, is_lt, is_gt, ordering_reverse}
-use Rattle.std.specs.Cmp.{IsTotalOrder}
-use Rattle.std.specs.Cmp.Lexicographic.{slice_cmp}
-use Rattle.std.specs.FinMap.{IsAntisymmetric, nat_cmp-IsAntisymmetric, slice_cmp-IsAntisymmetric}
-use Rattle.std.specs.List.{Contains}
-use Rattle.std.specs.List.Sorted.{IsPermutation, IsSorted}
+use Rattle.std.specs.Ordering.{nat_cmp, is_lt, ordering_reverse}
+use Rattle.std.specs.Cmp.Lexicographic.{slice_cmp, texts_ties}
+use Rattle.std.specs.List.{Contains, dedup, dedup_from}
+use Rattle.std.specs.List.Sorted.{IsPermutation, IsSorted, IsStrictlySortedBy}
 use Rattle.std.specs.Str.{bytes_eq}
-use Rattle.std.specs.String.{string_cmp}
-use Rattle.std.proofs.lemmas.Bool.{false≢true}
-use Rattle.std.proofs.lemmas.Cmp.{nat_list_cmp_total, upto}
+use Rattle.std.specs.String.{string_cmp, string_eq}
+use Rattle.std.proofs.lemmas.Cmp.{nat_list_cmp_total, nat_list_eq_equiv, tied_itself}
 use Rattle.std.proofs.lemmas.List.{length-map}
+use Rattle.std.proofs.lemmas.List.Elements.{All-contains}
+use Rattle.std.proofs.lemmas.List.Kept.{Contains-dedup, Contains-from_dedup, IsStrictlySortedBy-dedup}
 use Rattle.std.proofs.lemmas.List.Sorted.{Contains-permutation, IsPermutation-map, IsPermutation-sym}
+use Rattle.std.proofs.lemmas.Map.Keys.{sorted_tail}
+use Rattle.std.proofs.lemmas.Map.Views.{All-after_first}
 use Rattle.std.proofs.lemmas.Slice.Eq.{bytes_eq-Decides}
 use Rattle.std.proofs.Math.ListN.{get_or-map}
 use Rattle.ct_outside.specs.Files.{EachOnce}
-use Rattle.ct_find.specs.Rows.{texts_of, without_doubles}
+use Rattle.ct_find.specs.Rows.{texts_of}
 use Rattle.ct_find.specs.Sets.{AreSorted}
-use Rattle.ct_find.proofs.Members.{contains_first, contains_more, contains_cases, contains_none}
+use Rattle.ct_find.proofs.Members.{contains_first}
 
 -- an element that is there does not depend on the default
 get_or_apart : {A : Type 0} (xs : List A) (k : ℕ) (d e : A) → k < length xs → get_or xs k d ≡ get_or xs k e
@@ -42,40 +43,6 @@ sorted_texts (x ∷ xs) h k d low within =
     ap (λ t. is_lt (slice_cmp nat_cmp t (get_or (texts_of all) k d))) next
     ∙ ap (λ t. is_lt (slice_cmp nat_cmp (string_bytes (get_or all (k + 1) x)) t)) here ∙ h k x low inside
 
-turned : (r : Ordering) → is_lt r ≡ false → is_gt (ordering_reverse r) ≡ false
-turned Less e = absurd (false≢true (sym e))
-turned Equal e = refl
-turned Greater e = refl
-
-level : (r : Ordering) → is_gt r ≡ false → is_gt (ordering_reverse r) ≡ false → r ≡ Equal
-level Less e f = absurd (false≢true (sym f))
-level Equal e f = refl
-level Greater e f = absurd (false≢true (sym e))
-
-module _ {A : Type 0} (R : A → A → Ordering) (total : IsTotalOrder R) (same : IsAntisymmetric R) where
-  sorted_tail : (x : A) (xs : List A) → IsSorted R (x ∷ xs) → IsSorted R xs
-  sorted_tail x xs h k d low within =
-      let next : suc k + 1 ≡ suc (k + 1) = omega arith in
-      subst (λ i. is_lt (R (get_or (x ∷ xs) i d) (get_or xs k d)) ≡ false) next (h (suc k) d (omega arith) (omega arith))
-
-  head_first : (x : A) (xs : List A) → IsSorted R (x ∷ xs) → (y : A) → Contains xs y → is_gt (R x y) ≡ false
-  head_first x [] h y m = absurd (contains_none y m)
-  head_first x (z ∷ zs) h y m =
-      let next : is_gt (R x z) ≡ false = ap is_gt (total.antisymm x z) ∙ turned (R z x) (h 0 x (omega arith) (omega arith)) in
-      elim (contains_cases z zs y m) [
-        | inl e ↦ subst (λ k. is_gt (R x k) ≡ false) e next
-        | inr n ↦ upto total x z y next (head_first z zs (sorted_tail x (z ∷ zs) h) y n)
-      ]
-
-  both_first : (x y : A) → is_gt (R x y) ≡ false → is_gt (R y x) ≡ false → x ≡ y
-  both_first x y h k = same x y (level (R x y) h (sym (ap is_gt (total.antisymm y x)) ∙ k))
-
-paths_cmp : List ℕ → List ℕ → Ordering
-paths_cmp = slice_cmp nat_cmp
-
-same_paths : IsAntisymmetric (slice_cmp nat_cmp)
-same_paths = slice_cmp-IsAntisymmetric nat_cmp-IsAntisymmetric
-
 pub sorted_cons : (x y : List ℕ) (ys : List (List ℕ)) → is_lt (slice_cmp nat_cmp y x) ≡ false → IsSorted (slice_cmp nat_cmp) (y ∷ ys) → IsSorted (slice_cmp nat_cmp) (x ∷ y ∷ ys)
 sorted_cons x y ys le h zero d low within = le
 sorted_cons x y ys le h (suc k) d low within =
@@ -85,92 +52,50 @@ sorted_cons x y ys le h (suc k) d low within =
 pub sorted_one : (x : List ℕ) → IsSorted (slice_cmp nat_cmp) (x ∷ [])
 sorted_one x k d low within = absurd (omega arith)
 
--- what is left begins as the list does
-starts_alike : (x : List ℕ) (xs : List (List ℕ)) → (ys : List (List ℕ)) × (without_doubles (x ∷ xs) ≡ x ∷ ys)
-starts_alike x [] = ([], refl)
-starts_alike x (y ∷ ys) =
-    elim (bytes_eq x y) as (λ b. bytes_eq x y ≡ b → (zs : List (List ℕ)) × ((if b then without_doubles (y ∷ ys) else x ∷ without_doubles (y ∷ ys)) ≡ x ∷ zs)) [
-      | true ↦ λ e. let r = starts_alike y ys in (r.0, r.1 ∙ ap (λ z. z ∷ r.0) (sym ((bytes_eq-Decides x y).0 e)))
-      | false ↦ λ e. (without_doubles (y ∷ ys), refl)
-    ] refl
+-- the texts of what `dedup` leaves
+dedup_from_texts : (x : String Global) (xs : List (String Global)) → texts_of (dedup_from string_eq x xs) ≡ dedup_from bytes_eq (string_bytes x) (texts_of xs)
+dedup_from_texts x [] = refl
+dedup_from_texts x (y ∷ xs) = at (string_eq y x)
+  where
+    at : (b : Bool) → texts_of (cond b (dedup_from string_eq x xs) (x ∷ dedup_from string_eq y xs))
+        ≡ cond b (dedup_from bytes_eq (string_bytes x) (texts_of xs)) (string_bytes x ∷ dedup_from bytes_eq (string_bytes y) (texts_of xs))
+    at true = dedup_from_texts x xs
+    at false = ap (λ (ts : List (List ℕ)). string_bytes x ∷ ts) (dedup_from_texts y xs)
 
-kept_cases : (b : Bool) (x : List ℕ) (rest : List (List ℕ)) (z : List ℕ) → Contains (if b then rest else x ∷ rest) z → (x ≡ z) ⊎ Contains rest z
-kept_cases true x rest z h = inr h
-kept_cases false x rest z h = contains_cases x rest z h
+dedup_texts : (xs : List (String Global)) → texts_of (dedup string_eq xs) ≡ dedup bytes_eq (texts_of xs)
+dedup_texts [] = refl
+dedup_texts (x ∷ xs) = dedup_from_texts x xs
 
-pub kept_member : (xs : List (List ℕ)) (z : List ℕ) → Contains (without_doubles xs) z → Contains xs z
-kept_member [] z h = h
-kept_member (x ∷ []) z h = h
-kept_member (x ∷ y ∷ xs) z h = elim (kept_cases (bytes_eq x y) x (without_doubles (y ∷ xs)) z h) [
-  | inl e ↦ subst (λ w. Contains (x ∷ y ∷ xs) w) e (contains_first x (y ∷ xs))
-  | inr m ↦ contains_more x (y ∷ xs) z (kept_member (y ∷ xs) z m)
-]
+-- in a list where each path is below those behind it none stands twice
+strict_once : (paths : List (List ℕ)) → IsStrictlySortedBy (slice_cmp nat_cmp) paths → EachOnce paths
+strict_once [] h = tt
+strict_once (p ∷ ps) h = (
+  (λ m.
+      let less : slice_cmp nat_cmp p p ≡ Less = All-contains (λ q. slice_cmp nat_cmp p q ≡ Less) ps p (All-after_first (slice_cmp nat_cmp) p ps h) m in
+      let tied : Less ≡ Equal = sym less ∙ tied_itself nat_list_cmp_total p in absurd (cc)),
+  strict_once ps (sorted_tail (slice_cmp nat_cmp) p ps h),
+)
 
-pub member_kept : (xs : List (List ℕ)) (z : List ℕ) → Contains xs z → Contains (without_doubles xs) z
-member_kept [] z h = h
-member_kept (x ∷ []) z h = h
-member_kept (x ∷ y ∷ xs) z h =
-    elim (bytes_eq x y) as (λ b. bytes_eq x y ≡ b → Contains (if b then without_doubles (y ∷ xs) else x ∷ without_doubles (y ∷ xs)) z) [
-      | true ↦ λ e. member_kept (y ∷ xs) z (elim (contains_cases x (y ∷ xs) z h) [
-        | inl same ↦ subst (λ w. Contains (y ∷ xs) w) (sym ((bytes_eq-Decides x y).0 e) ∙ same) (contains_first y xs)
-        | inr m ↦ m
-      ])
-      | false ↦ λ e. elim (contains_cases x (y ∷ xs) z h) [
-        | inl same ↦ subst (λ w. Contains (x ∷ without_doubles (y ∷ xs)) w) same (contains_first x (without_doubles (y ∷ xs)))
-        | inr m ↦ contains_more x (without_doubles (y ∷ xs)) z (member_kept (y ∷ xs) z m)
-      ]
-    ] refl
-
-ordered : (x y : List ℕ) (ys : List (List ℕ)) → IsSorted (slice_cmp nat_cmp) (x ∷ y ∷ ys) → is_lt (slice_cmp nat_cmp y x) ≡ false
-ordered x y ys h = h 0 x (omega arith) (omega arith)
-
-kept_sorted : (xs : List (List ℕ)) → IsSorted (slice_cmp nat_cmp) xs → IsSorted (slice_cmp nat_cmp) (without_doubles xs)
-kept_sorted [] h = h
-kept_sorted (x ∷ []) h = h
-kept_sorted (x ∷ y ∷ xs) h =
-    let tail = kept_sorted (y ∷ xs) (sorted_tail (slice_cmp nat_cmp) nat_list_cmp_total same_paths x (y ∷ xs) h) in
-    elim (bytes_eq x y) as (λ b. IsSorted (slice_cmp nat_cmp) (if b then without_doubles (y ∷ xs) else x ∷ without_doubles (y ∷ xs))) [
-      | true ↦ tail
-      | false ↦
-          let alike = starts_alike y xs in
-          subst (λ zs. IsSorted (slice_cmp nat_cmp) (x ∷ zs)) (sym alike.1)
-          (sorted_cons x y alike.0 (ordered x y xs h) (subst (λ zs. IsSorted (slice_cmp nat_cmp) zs) alike.1 tail))
-    ]
-
--- nothing behind a different next one is the first
-apart : (x y : List ℕ) (xs : List (List ℕ)) → IsSorted (slice_cmp nat_cmp) (x ∷ y ∷ xs) → bytes_eq x y ≡ false → Contains (y ∷ xs) x → ⊥
-apart x y xs h other m = elim (contains_cases y xs x m) [
-  | inl same ↦ false≢true (sym other ∙ (bytes_eq-Decides x y).1 (sym same))
-  | inr n ↦
-      let up : is_gt (slice_cmp nat_cmp x y) ≡ false = head_first (slice_cmp nat_cmp) nat_list_cmp_total same_paths x (y ∷ xs) h y (contains_first y xs) in
-      let down : is_gt (slice_cmp nat_cmp y x) ≡ false =
-      head_first (slice_cmp nat_cmp) nat_list_cmp_total same_paths y xs (sorted_tail (slice_cmp nat_cmp) nat_list_cmp_total same_paths x (y ∷ xs) h) x n in
-      false≢true (sym other ∙ (bytes_eq-Decides x y).1 (both_first (slice_cmp nat_cmp) nat_list_cmp_total same_paths x y up down))
-]
-
-kept_once : (xs : List (List ℕ)) → IsSorted (slice_cmp nat_cmp) xs → EachOnce (without_doubles xs)
-kept_once [] h = tt
-kept_once (x ∷ []) h = ((λ m. contains_none x m), tt)
-kept_once (x ∷ y ∷ xs) h =
-    let tail = kept_once (y ∷ xs) (sorted_tail (slice_cmp nat_cmp) nat_list_cmp_total same_paths x (y ∷ xs) h) in
-    elim (bytes_eq x y) as (λ b. bytes_eq x y ≡ b → EachOnce (if b then without_doubles (y ∷ xs) else x ∷ without_doubles (y ∷ xs))) [
-      | true ↦ λ e. tail
-      | false ↦ λ e. ((λ m. apart x y xs h e (kept_member (y ∷ xs) x m)), tail)
-    ] refl
+strict_sorted : (paths : List (List ℕ)) → IsStrictlySortedBy (slice_cmp nat_cmp) paths → IsSorted (slice_cmp nat_cmp) paths
+strict_sorted [] h k d low within = absurd (omega arith)
+strict_sorted (p ∷ []) h = sorted_one p
+strict_sorted (p ∷ q ∷ ps) h =
+    let less : slice_cmp nat_cmp p q ≡ Less = All-contains (λ x. slice_cmp nat_cmp p x ≡ Less) (q ∷ ps) q (All-after_first (slice_cmp nat_cmp) p (q ∷ ps) h) (contains_first q ps) in
+    sorted_cons p q ps (ap is_lt (nat_list_cmp_total.antisymm q p ∙ ap ordering_reverse less)) (strict_sorted (q ∷ ps) (sorted_tail (slice_cmp nat_cmp) p (q ∷ ps) h))
 
 -- what a sort and the removal of doubles leave
-pub sorted_set : (old new : List (String Global)) (kept : List (List ℕ)) → IsSorted string_cmp new → IsPermutation old new → kept ≡ without_doubles (texts_of new)
-    → AreSorted (Contains (texts_of old)) kept
-sorted_set old new kept sorted moved is =
-    let texts : IsSorted (slice_cmp nat_cmp) (texts_of new) = sorted_texts new sorted in
-    let same : IsPermutation (texts_of old) (texts_of new) = IsPermutation-map string_bytes old new moved in
-    subst (λ zs. AreSorted (Contains (texts_of old)) zs) (sym is) (record {
+pub sorted_set : (old sorted left : List (String Global)) → IsSorted string_cmp sorted → IsPermutation old sorted → left ≡ dedup string_eq sorted
+    → AreSorted (Contains (texts_of old)) (texts_of left)
+sorted_set old sorted left in_order moved is =
+    let same : IsPermutation (texts_of old) (texts_of sorted) = IsPermutation-map string_bytes old sorted moved in
+    let strict = IsStrictlySortedBy-dedup nat_list_cmp_total texts_ties (texts_of sorted) (sorted_texts sorted in_order) in
+    subst (λ ps. AreSorted (Contains (texts_of old)) ps) (sym (ap texts_of is ∙ dedup_texts sorted)) (record {
       each = λ path. (
-        (λ m. Contains-permutation (texts_of new) (texts_of old) path (IsPermutation-sym (texts_of old) (texts_of new) same) (kept_member (texts_of new) path m)),
-        (λ m. member_kept (texts_of new) path (Contains-permutation (texts_of old) (texts_of new) path same m)),
+        (λ m. Contains-permutation (texts_of sorted) (texts_of old) path (IsPermutation-sym (texts_of old) (texts_of sorted) same) (Contains-from_dedup bytes_eq (texts_of sorted) path m)),
+        (λ m. Contains-dedup nat_list_eq_equiv (λ x y. (bytes_eq-Decides x y).0) (texts_of sorted) path (Contains-permutation (texts_of old) (texts_of sorted) path same m)),
       );
-      once = kept_once (texts_of new) texts;
-      sorted = kept_sorted (texts_of new) texts;
+      once = strict_once (dedup bytes_eq (texts_of sorted)) strict;
+      sorted = strict_sorted (dedup bytes_eq (texts_of sorted)) strict;
     })
 
 -- another name of the same set
@@ -180,33 +105,3 @@ sorted_as P Q paths same set = record {
   once = set.once;
   sorted = set.sorted;
 }
-
--- the step of the loop that removes doubles: what is kept so far and what the rest leaves
-kept_at : (x y : List ℕ) (ys : List (List ℕ)) (b : Bool) → IsTrue b ↔ (y ≡ x → ⊥) → without_doubles (x ∷ y ∷ ys) ≡ (if b then x ∷ without_doubles (y ∷ ys) else without_doubles (y ∷ ys))
-kept_at x y ys true other =
-    elim (bytes_eq x y) as (λ t. bytes_eq x y ≡ t → (if t then without_doubles (y ∷ ys) else x ∷ without_doubles (y ∷ ys)) ≡ x ∷ without_doubles (y ∷ ys)) [
-      | true ↦ λ e. absurd (other.0 refl (sym ((bytes_eq-Decides x y).0 e)))
-      | false ↦ λ e. refl
-    ] refl
-kept_at x y ys false other =
-    elim (bytes_eq x y) as (λ t. bytes_eq x y ≡ t → (if t then without_doubles (y ∷ ys) else x ∷ without_doubles (y ∷ ys)) ≡ without_doubles (y ∷ ys)) [
-      | true ↦ λ e. refl
-      | false ↦ λ e. absurd (false≢true (other.1 (λ same. false≢true (sym e ∙ (bytes_eq-Decides x y).1 (sym same)))))
-    ] refl
-
-pub kept_step : (xs : List (String Global)) (i : ℕ) (x : String Global) (b : Bool) → i < length xs → x ≡ get_or xs i x
-    → MatchOption (slice_get xs (i + 1)) (IsTrue b) (λ next. IsTrue b ↔ (string_bytes next ≡ string_bytes x → ⊥))
-    → without_doubles (drop i (texts_of xs)) ≡ (if b then string_bytes x ∷ without_doubles (drop (i + 1) (texts_of xs)) else without_doubles (drop (i + 1) (texts_of xs)))
-kept_step [] i x b within read h = absurd (omega arith)
-kept_step (z ∷ []) zero x b within read h = rw (h, read) refl
-kept_step (z ∷ w ∷ zs) zero x b within read h =
-    subst (λ t. without_doubles (t ∷ string_bytes w ∷ texts_of zs) ≡ (if b then string_bytes x ∷ without_doubles (string_bytes w ∷ texts_of zs) else without_doubles (string_bytes w ∷ texts_of zs)))
-    (ap string_bytes read) (kept_at (string_bytes x) (string_bytes w) (texts_of zs) b h)
-kept_step (z ∷ zs) (suc i) x b within read h =
-    let next : suc i + 1 ≡ suc (i + 1) = omega arith in
-    rw next (kept_step zs i x b (omega arith) read (rw next at h))
-
-pub kept_push : (old rest new total wider : List (List ℕ)) (x : List ℕ) (b : Bool) → old ++ wider ≡ total → wider ≡ (if b then x ∷ rest else rest)
-    → (b ≡ true → new ≡ old ++ x ∷ []) → (b ≡ false → new ≡ old) → new ++ rest ≡ total
-kept_push old rest new total wider x true was step kept left = ap (λ zs. zs ++ rest) (kept refl) ∙ append_assoc old (x ∷ []) rest ∙ ap (λ zs. old ++ zs) (sym step) ∙ was
-kept_push old rest new total wider x false was step kept left = ap (λ zs. zs ++ rest) (left refl) ∙ ap (λ zs. old ++ zs) (sym step) ∙ was

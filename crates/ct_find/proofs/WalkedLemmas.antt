@@ -3,7 +3,7 @@ use Rattle.std.proofs.Common.{◌≡◌, ℕ, suc, ◌+◌, ◌≤◌, inl, inr,
 use Rattle.std.specs.Prelude.{◌&&◌, ◌==◌, reverse, All, sum_by}
 use Rattle.std.specs.Option.{option_map}
 use Rattle.std.specs.List.{Contains, before_first, list_any, position_or_len}
-use Rattle.std.proofs.lemmas.Bool.{false≢true}
+use Rattle.std.proofs.lemmas.Bool.{false≢true, and_parts}
 use Rattle.std.proofs.lemmas.Bool.Decides.{nat_tests}
 use Rattle.std.proofs.lemmas.List.{append-nil, reverse-append}
 use Rattle.std.proofs.lemmas.List.Elements.{All-push}
@@ -26,10 +26,6 @@ use Rattle.ct_find.proofs.Members.{contains_append, contains_cases, contains_map
 use Rattle.ct_find.proofs.OrderLemmas.{lists_then, places_from, places_have, places_new, places_old}
 use Rattle.ct_find.proofs.SetLemmas.{sorted_as}
 use Rattle.ct_find.specs.Places.{IsFresh}
-
-pub both_true : (a b : Bool) → (a && b) ≡ true → (a ≡ true) × (b ≡ true)
-both_true true b e = (refl, e)
-both_true false b e = absurd (false≢true e)
 
 not_true : (b : Bool) → not b ≡ true → b ≡ false
 not_true true e = absurd (false≢true e)
@@ -71,8 +67,8 @@ row_children : (files : Files) (row : Row) → IsListing files row.folder row.en
 row_children files row listing path = (
   λ h.
       let e : Entry = h.0 in
-      let first = both_true e.folder (not (length e.name == 0) && not (list_any is_slash e.name)) h.2.0 in
-      let second = both_true (not (length e.name == 0)) (not (list_any is_slash e.name)) first.1 in
+      let first = and_parts e.folder (not (length e.name == 0) && not (list_any is_slash e.name)) h.2.0 in
+      let second = and_parts (not (length e.name == 0)) (not (list_any is_slash e.name)) first.1 in
       let same : e ≡ record { name = e.name; folder = true } = same_entry e (record { name = e.name; folder = true }) refl first.0 in
       (e.name, h.2.1, some_length e.name (not_true (length e.name == 0) second.0), subst (λ (x : Entry). IsEntry files row.folder x) same ((listing.each e).0 h.1)),
   λ h.

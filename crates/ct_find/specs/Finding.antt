@@ -15,7 +15,7 @@ use Rattle.ct_find.specs.declared.starts.Start.{Start}
 use Rattle.ct_find.specs.declared.walking.Listing.{Listing}
 use Rattle.ct_find.specs.Limits.{ReadingPasses, most_files}
 use Rattle.ct_find.specs.Order.{IsWhole}
-use Rattle.ct_find.specs.Rows.{AreLists, AreThere, IsInLists, IsWalked, ReadsAll, WalkPasses}
+use Rattle.ct_find.specs.Rows.{AreLists, AreThere, IsInLists, IsWalked, ReadsListedFiles, WalkPasses}
 use Rattle.ct_find.specs.Sets.{AreSorted}
 
 -- the path at which there are too many
@@ -44,7 +44,7 @@ pub record IsListed (settings : ProjectSettings) (files : Files) (lists : FileLi
 abbrev pub FindsListed : ProjectSettings → Files → Result Found (Fail FindFault) → Type 0
 FindsListed settings files (Ok found) =
     (lists : FileLists) × (paths : List (List ℕ)) × IsListed settings files lists paths × (length paths ≤ most_files)
-    × (AreThere files paths → ReadsAll files paths (Ok found.texts) × (found ≡ record { tests = lists.tests; sources = lists.sources; headers = lists.headers; folders = lists.folders; texts = found.texts }))
+    × (AreThere files paths → ReadsListedFiles files paths (Ok found.texts) × (found ≡ record { tests = lists.tests; sources = lists.sources; headers = lists.headers; folders = lists.folders; texts = found.texts }))
 FindsListed settings files (Err OutOfMemory) = Unit {0}
 FindsListed settings files (Err (Fault Read)) = Unit {0}
 FindsListed settings files (Err (Fault (Limit kind path))) =

@@ -1,6 +1,7 @@
 -- The limits of listing and reading.
 use Rattle.std.specs.Prelude.{◌≡◌, ◌⊎◌, ℕ, ◌+◌, ◌<◌, ◌≤◌, List, [], ◌∷◌, ◌++◌, All, length, Some}
 use Rattle.std.specs.FinMap.{get}
+use Rattle.ct_base.specs.Limits.{mebibyte}
 use Rattle.ct_base.specs.declared.limits.LimitKind.{LimitKind}
 use Rattle.ct_base.specs.declared.limits.LimitKind.TheVariants.{FileBytes, AllBytes, Entries, FolderDepth}
 use Rattle.ct_outside.specs.Files.{Files, IsListing}
@@ -12,7 +13,7 @@ use Rattle.ct_find.specs.Order.{IsOrder}
 -- the most bytes of a file and of all files that are read, the most files, the most listed entries and the
 -- most components of a folder
 abbrev pub most_file_bytes : ℕ
-most_file_bytes = 1048576
+most_file_bytes = mebibyte
 
 abbrev pub most_bytes : ℕ
 most_bytes = 16777216

@@ -31,12 +31,6 @@ use Rattle.ct_find.specs.Sets.{AreSorted}
 abbrev pub texts_of : List (String Global) → List (List ℕ)
 texts_of paths = map string_bytes paths
 
--- a list without the members that stand right before the same
-abbrev pub without_doubles : List (List ℕ) → List (List ℕ)
-without_doubles [] = []
-without_doubles (x ∷ []) = x ∷ []
-without_doubles (x ∷ y ∷ xs) = if bytes_eq x y then without_doubles (y ∷ xs) else x ∷ without_doubles (y ∷ xs)
-
 -- the group's patterns match a folder
 abbrev pub IsMatched : List Pattern → List ℕ → Type 0
 IsMatched patterns folder = IsAdded patterns folder × (IsRemoved patterns folder → ⊥)
@@ -186,12 +180,12 @@ abbrev pub AreThere : Files → List (List ℕ) → Type 0
 AreThere files paths = (path : List ℕ) → Contains paths path → IsSome (get files path)
 
 -- a text of this path was read, so many bytes being read before; or it passes a limit
-abbrev pub ReadsNext : List ℕ → List ℕ → ℕ → Files → Files → Result ℕ (Fail FindFault) → Type 0
-ReadsNext path text read old new (Ok now) =
+abbrev pub ReadsListedFile : List ℕ → List ℕ → ℕ → Files → Files → Result ℕ (Fail FindFault) → Type 0
+ReadsListedFile path text read old new (Ok now) =
     (new ≡ insert old path text) × (length text ≤ most_file_bytes) × (now ≡ read + length text) × (now ≤ most_bytes)
-ReadsNext path text read old new (Err OutOfMemory) = Unit {0}
-ReadsNext path text read old new (Err (Fault Read)) = Unit {0}
-ReadsNext path text read old new (Err (Fault (Limit kind at))) =
+ReadsListedFile path text read old new (Err OutOfMemory) = Unit {0}
+ReadsListedFile path text read old new (Err (Fault Read)) = Unit {0}
+ReadsListedFile path text read old new (Err (Fault (Limit kind at))) =
     (at ≡ path) × (((kind ≡ FileBytes) × (most_file_bytes < length text)) ⊎ ((kind ≡ AllBytes) × (length text ≤ most_file_bytes) × (most_bytes < read + length text)))
 
 -- no text is longer than a file may be
@@ -199,12 +193,12 @@ abbrev pub AreSmall : Files → Type 0
 AreSmall texts = (path text : List ℕ) → get texts path ≡ Some text → length text ≤ most_file_bytes
 
 -- the texts of these paths were read, and no others; or one passes a limit
-abbrev pub ReadsAll : Files → List (List ℕ) → Result Files (Fail FindFault) → Type 0
-ReadsAll files paths (Ok texts) =
+abbrev pub ReadsListedFiles : Files → List (List ℕ) → Result Files (Fail FindFault) → Type 0
+ReadsListedFiles files paths (Ok texts) =
     ReadingStays files paths 0 × ((path : List ℕ) → Contains paths path → get texts path ≡ get files path) × ((path : List ℕ) → (Contains paths path → ⊥) → get texts path ≡ None)
-ReadsAll files paths (Err OutOfMemory) = Unit {0}
-ReadsAll files paths (Err (Fault Read)) = Unit {0}
-ReadsAll files paths (Err (Fault (Limit kind path))) = ReadingPasses files paths 0 kind path
+ReadsListedFiles files paths (Err OutOfMemory) = Unit {0}
+ReadsListedFiles files paths (Err (Fault Read)) = Unit {0}
+ReadsListedFiles files paths (Err (Fault (Limit kind path))) = ReadingPasses files paths 0 kind path
 
 -- the paths that have a text
 abbrev pub with_text : Files → List (List ℕ) → List (List ℕ)

@@ -5,16 +5,16 @@ ghost use Rattle.std.specs.FinMap.{get};
 ghost use Rattle.ct_outside.specs.Files.{Files};
 ghost use Rattle.ct_find.specs.Limits.{most_bytes};
 ghost use Rattle.ct_find.specs.Results.{FaultsAfter};
-ghost use Rattle.ct_find.specs.Rows.{AreSmall, AreThere, ReadsAll, ReadsNext, with_text};
+ghost use Rattle.ct_find.specs.Rows.{AreSmall, AreThere, ReadsListedFiles, ReadsListedFile, with_text};
 
 use crate::files::FindFault;
 use crate::walking::limit;
-use ct_base::{Fail, Items, LimitKind, Mem, Out, Text};
+use ct_base::{Fail, Items, LimitKind, MEBIBYTE, Mem, Out, Text};
 use ct_outside::{Finder, Found, Texts, Tree, TreeError};
 use std::alloc::Global;
 
 /// The most bytes of a file.
-const MOST_FILE_BYTES: u64 = 1048576;
+const MOST_FILE_BYTES: u64 = MEBIBYTE as u64;
 
 /// The most bytes of all files that are read.
 const MOST_BYTES: u64 = 16777216;
@@ -30,7 +30,7 @@ fn read_file<T: Tree>(
 ) -> Out<u64, FindFault>
     requires { read ≤ most_bytes }
     ensures told { (files : Files) (text : List ℕ) → T.files tree.old ≡ Some files → get files path.now ≡ Some text
-        → ReadsNext path.now text read texts.old texts.new result }
+        → ReadsListedFile path.now text read texts.old texts.new result }
     ensures few { IfOk result (λ now. now ≤ most_bytes) }
     ensures small { OnOk result (AreSmall texts.old → AreSmall texts.new) }
     ensures same_files { T.files tree.new ≡ T.files tree.old }
@@ -57,7 +57,7 @@ fn read_file<T: Tree>(
 
 /// Reads files in this order.
 pub fn read_files<T: Tree>(alloc: Global, tree: &mut T, paths: &[Text]) -> Out<Texts, FindFault>
-    ensures told { (files : Files) → T.files tree.old ≡ Some files → AreThere files paths.now → ReadsAll files paths.now result }
+    ensures told { (files : Files) → T.files tree.old ≡ Some files → AreThere files paths.now → ReadsListedFiles files paths.now result }
     ensures small { IfOk result AreSmall }
     ensures same_files { T.files tree.new ≡ T.files tree.old }
     ensures faults { FaultsAfter result (T.read_faults tree.old) (T.read_faults tree.new) }

@@ -6,7 +6,8 @@ use Rattle.std.specs.Str.{IsAscii, is_utf8}
 use Rattle.std.proofs.lemmas.Str.{IsUtf8-from_ascii, is_utf8-from_IsUtf8}
 use Rattle.std.proofs.lemmas.Str.Ascii.{IsAscii-nil, IsAscii-cons}
 use Rattle.std.proofs.lemmas.Bool.{and_parts, false≢true}
-use Rattle.ct_settings.specs.Names.{is_letter, is_name_byte, is_prefix, is_mock_prefix}
+use Rattle.ct_base.specs.Bytes.{is_letter, is_name_byte}
+use Rattle.ct_settings.specs.Names.{is_prefix, is_mock_prefix}
 
 letter_ascii : (byte : ℕ) → is_letter byte ≡ true → byte < 128
 letter_ascii byte h = grind (arith, nat_tests)

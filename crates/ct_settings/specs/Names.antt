@@ -3,24 +3,11 @@ use Rattle.std.specs.Prelude.{ℕ, ◌==◌, ◌&&◌, ◌||◌, not, Bool, true
 use Rattle.std.specs.List.{list_any, list_all}
 use Rattle.std.specs.Option.{is_some}
 use Rattle.std.specs.Str.{bytes_eq}
-use Rattle.ct_yaml.specs.Line.{has_pair}
+use Rattle.ct_base.specs.Bytes.{has_pair, is_letter, is_name_byte, is_nondigit}
 use Rattle.ct_settings.specs.declared.record.Define.{Define}
 use Rattle.ct_settings.specs.declared.record.WhenPtr.{WhenPtr}
 use Rattle.ct_settings.specs.declared.record.WhenPtr.TheVariants.{CompareData, ComparePtr, Smart}
 use Rattle.ct_settings.specs.Paths.{behind}
-
-abbrev pub is_between : ℕ → ℕ → ℕ → Bool
-is_between low high byte = nat_le low byte && nat_le byte high
-
-abbrev pub is_letter : ℕ → Bool
-is_letter byte = is_between 65 90 byte || is_between 97 122 byte
-
-abbrev pub is_digit : ℕ → Bool
-is_digit byte = is_between 48 57 byte
-
--- a letter, a digit or `_`
-abbrev pub is_name_byte : ℕ → Bool
-is_name_byte byte = is_letter byte || is_digit byte || (byte == 95)
 
 -- ---- prefixes
 
@@ -45,7 +32,7 @@ mock_prefix_of text = if is_mock_prefix text then Some text else None
 -- C11 6.4.2.1
 abbrev pub is_identifier : List ℕ → Bool
 is_identifier [] = false
-is_identifier (byte ∷ bytes) = (is_letter byte || (byte == 95)) && list_all is_name_byte bytes
+is_identifier (byte ∷ bytes) = is_nondigit byte && list_all is_name_byte bytes
 
 -- what a project may not define: these names, and those of the guards of generated heads
 abbrev pub is_reserved : List ℕ → Bool

@@ -2,33 +2,15 @@
 
 ghost use Rattle.std.specs.Prelude.{◌≡◌, ◌<◌, ◌||◌, ℕ, List, length, not, position, IfOk, IfSome};
 ghost use Rattle.std.specs.Str.{bytes_eq};
-ghost use Rattle.ct_yaml.specs.Line as line;
 ghost use Rattle.ct_settings.specs.Names as spec;
 ghost use Rattle.ct_settings.specs.Seen.{has_name};
 
 use crate::names::is_identifier;
 use crate::record::Define;
-use crate::texts::{behind, first_of};
-use ct_base::{Bytes, Items, Mem};
+use crate::texts::behind;
+use ct_base::{Bytes, Items, Mem, has_pair};
 use std::alloc::Global;
 use std::collections::BTreeSet;
-
-/// Whether the second byte stands right behind the first somewhere.
-fn has_pair(first: u8, second: u8, text: &[u8]) -> bool
-    ensures { result ≡ line.has_pair first second text.now }
-{
-    let mut rest = text;
-    while let Some((byte, more)) = first_of(rest) {
-        let Some((next, _)) = first_of(more) else {
-            return false;
-        };
-        if byte == first && next == second {
-            return true;
-        }
-        rest = more;
-    }
-    false
-}
 
 /// Whether a project may not define a name.
 fn is_reserved(name: &[u8]) -> bool

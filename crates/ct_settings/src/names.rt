@@ -2,28 +2,16 @@
 
 ghost use Rattle.std.specs.Prelude.{◌≡◌, IfOk, map};
 ghost use Rattle.std.specs.List.{list_all};
+ghost use Rattle.ct_base.specs.Bytes as bytes_spec;
 ghost use Rattle.ct_settings.specs.Names as spec;
 
 use crate::record::WhenPtr;
-use crate::texts::{behind, first_of, text_of};
-use ct_base::{Mem, Text};
+use crate::texts::{behind, text_of};
+use ct_base::{Mem, Text, first_of, is_letter, is_name_byte, is_nondigit};
 use std::alloc::Global;
 
-fn is_letter(byte: u8) -> bool
-    ensures { result ≡ spec.is_letter byte }
-{
-    matches!(byte, b'A'..=b'Z' | b'a'..=b'z')
-}
-
-/// Whether a byte is a letter, a digit or `_`.
-fn is_name_byte(byte: u8) -> bool
-    ensures { result ≡ spec.is_name_byte byte }
-{
-    is_letter(byte) || matches!(byte, b'0'..=b'9') || byte == b'_'
-}
-
 fn are_name_bytes(bytes: &[u8]) -> bool
-    ensures { result ≡ list_all spec.is_name_byte bytes.now }
+    ensures { result ≡ list_all bytes_spec.is_name_byte bytes.now }
 {
     bytes.iter().all(|byte| is_name_byte(*byte))
 }
@@ -75,7 +63,7 @@ pub fn is_identifier(text: &[u8]) -> bool
     ensures { result ≡ spec.is_identifier text.now }
 {
     match first_of(text) {
-        Some((byte, bytes)) => (is_letter(byte) || byte == b'_') && are_name_bytes(bytes),
+        Some((byte, bytes)) => is_nondigit(byte) && are_name_bytes(bytes),
         None => false,
     }
 }

@@ -1,6 +1,6 @@
 //! Texts, and what stands at their ends.
 
-ghost use Rattle.std.specs.Prelude.{◌≡◌, [], ◌∷◌, MatchOption, IfOk, Some, None, if◌then◌else◌};
+ghost use Rattle.std.specs.Prelude.{◌≡◌, IfOk, Some, None, if◌then◌else◌};
 ghost use Rattle.std.specs.Option.{option_copied};
 ghost use Rattle.std.specs.Str as str_spec;
 ghost use Rattle.ct_settings.specs.Paths as spec;
@@ -8,14 +8,6 @@ ghost use Rattle.ct_settings.specs.Paths as spec;
 use ct_base::{Mem, Text};
 use std::alloc::Global;
 use std::str;
-
-/// The first byte, and those behind it.
-pub fn first_of(bytes: &[u8]) -> Option<(u8, &[u8])>
-    ensures { MatchOption result (bytes.now ≡ []) (λ found. bytes.now ≡ found.0 ∷ found.1.now) }
-{
-    let (first, rest) = bytes.split_first()?;
-    Some((*first, rest))
-}
 
 /// What stands behind a front, where the text begins with it.
 pub fn behind<'a>(front: &[u8], text: &'a [u8]) -> Option<&'a [u8]>
