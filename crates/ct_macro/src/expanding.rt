@@ -84,15 +84,3 @@ pub fn expand(
     let tokens = stripped(alloc, done)?;
     Ok(Expansion { tokens, counted })
 }
-
-/// A list has one expansion or one first refusal, so `expand` gives that one.
-pub fn one_expansion()
-    ensures one { (macros : List Macro) (tokens a b : List Token) (room m n : ℕ) → spec.IsExpansion macros tokens room a m
-        → spec.IsExpansion macros tokens room b n → (a ≡ b) × (m ≡ n) }
-    ensures apart { (macros : List Macro) (tokens a : List Token) (room m : ℕ) (fault : declared.MacroFault)
-        → spec.IsExpansion macros tokens room a m → spec.IsRefusal macros tokens room fault → ⊥ }
-    ensures refusal { (macros : List Macro) (tokens : List Token) (room : ℕ) (one other : declared.MacroFault)
-        → spec.IsRefusal macros tokens room one → spec.IsRefusal macros tokens room other → one ≡ other }
-{
-    one_replacement();
-}
