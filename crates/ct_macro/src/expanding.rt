@@ -1,17 +1,14 @@
 //! The expansion of a list of tokens.
 
-ghost use Rattle.std.specs.Prelude.{◌≡◌, false, ℕ, List, IfOk, map};
+ghost use Rattle.std.specs.Prelude.{◌≡◌, false, IfOk, map};
 ghost use Rattle.ct_base.specs.Answers.{IfFault};
-ghost use Rattle.ct_base.specs.declared.lexical.Token.{Token};
-ghost use Rattle.ct_macro_call.specs.declared.definition.Macro.{Macro};
-ghost use Rattle.ct_macro.specs.declared.faults.MacroFault as declared;
 ghost use Rattle.ct_macro.specs.Expansion as spec;
 
 use crate::expander::Expander;
 use crate::faults::MacroFault;
 use crate::table::Macros;
 use ct_base::{Items, Mem, Out, Token, TokenKind};
-use ct_macro_call::{Marked, Source, copy_token, one_replacement};
+use ct_macro_call::{Marked, Source, copy_token};
 use std::alloc::Global;
 
 /// What a list of tokens becomes, and how many tokens were put by replacements, intermediate ones
