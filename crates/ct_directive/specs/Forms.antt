@@ -143,7 +143,7 @@ is_defined macros name = bytes_eq name (codes "__LINE__") || stands (macro_named
   where
     stands : Option Macro → Bool
     stands None = false
-    stands (Some m) = true
+    stands (Some found) = true
 
 -- the number that `defined` and its name stand for
 abbrev pub defined_number : List Macro → Token → List ℕ → Token
@@ -156,17 +156,17 @@ is_operator token = is_name token && is (codes "defined") token
 -- each `defined NAME` and `defined ( NAME )` as a number
 abbrev pub without_defined : List Macro → List Token → List Token
 without_defined macros [] = []
-without_defined macros (a ∷ []) = a ∷ []
-without_defined macros (a ∷ b ∷ []) =
-    if is_operator a && is_name b then defined_number macros a b.text ∷ [] else a ∷ b ∷ []
-without_defined macros (a ∷ b ∷ c ∷ []) =
-    if is_operator a && is_name b then defined_number macros a b.text ∷ c ∷ []
-    else a ∷ without_defined macros (b ∷ c ∷ [])
-without_defined macros (a ∷ b ∷ c ∷ d ∷ rest) =
-    if is_operator a && is_name b then defined_number macros a b.text ∷ without_defined macros (c ∷ d ∷ rest)
-    else if is_operator a && is (codes "(") b && is_name c && is (codes ")") d
-    then defined_number macros a c.text ∷ without_defined macros rest
-    else a ∷ without_defined macros (b ∷ c ∷ d ∷ rest)
+without_defined macros (first ∷ []) = first ∷ []
+without_defined macros (first ∷ second ∷ []) =
+    if is_operator first && is_name second then defined_number macros first second.text ∷ [] else first ∷ second ∷ []
+without_defined macros (first ∷ second ∷ third ∷ []) =
+    if is_operator first && is_name second then defined_number macros first second.text ∷ third ∷ []
+    else first ∷ without_defined macros (second ∷ third ∷ [])
+without_defined macros (first ∷ second ∷ third ∷ fourth ∷ rest) =
+    if is_operator first && is_name second then defined_number macros first second.text ∷ without_defined macros (third ∷ fourth ∷ rest)
+    else if is_operator first && is (codes "(") second && is_name third && is (codes ")") fourth
+    then defined_number macros first third.text ∷ without_defined macros rest
+    else first ∷ without_defined macros (second ∷ third ∷ fourth ∷ rest)
 
 -- `defined` stands without a name
 abbrev pub has_operator : List Token → Bool

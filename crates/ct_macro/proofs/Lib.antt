@@ -3,3 +3,7 @@ mod Steps
 pub mod Weights
 mod Unique
 mod Readings
+mod Puts
+mod OneText
+mod EachReading
+mod EachList

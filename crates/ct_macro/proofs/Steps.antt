@@ -15,8 +15,8 @@ use Rattle.ct_macro.specs.declared.reading.Step.{Step}
 use Rattle.ct_macro.specs.declared.reading.Step.TheVariants as step
 use Rattle.ct_macro.specs.declared.expander.Frame.{Frame}
 use Rattle.ct_macro.specs.declared.expander.Expander.{Expander}
-use Rattle.ct_macro_call.specs.Substitution.{IsPut}
-use Rattle.ct_macro.specs.Expansion.{Reading, kept, refused, replaced, Outcome, done, stopped, fault_at, led_by, Reads, Expands, nothing, keeps, refuses, replaces, ExpandsEach, none, each, ends, Continues, stops, unpasted, passes, again}
+use Rattle.ct_macro_call.specs.Substitution.{IsReplacement}
+use Rattle.ct_macro.specs.Expansion.{Reading, kept, refused, replaced, ExpansionOutcome, done, stopped, fault_at, led_by, IsReading, Expands, nothing, keeps, refuses, replaces, ExpandsEach, none, each, ends, Continues, stops, unpasted, passes, again}
 use Rattle.ct_macro.specs.Machine.{StepGives, led_all, Finishes, ResumesOne, Resumes, GoesOn, Comes}
 
 -- ---- answers
@@ -43,41 +43,41 @@ fault_passed T F (Err m) e P Q is h f = if_fault (Unit {0}) F (Err m) P Q (subst
 
 module _ (macros : List Macro) (first : Marked) (rest : List Marked) where
   abbrev pub Gives : Step → List Marked → Type 0
-  Gives answer after = (reading : Reading) × Reads macros first rest reading × StepGives first rest answer after reading
+  Gives answer after = (reading : Reading) × IsReading macros first rest reading × StepGives first rest answer after reading
 
   pub kept_reading : (answer : Step) (after : List Marked) (token : Marked) → Gives answer after → answer ≡ step.Kept token
-      → Reads macros first rest kept × (token ≡ first) × (after ≡ rest)
+      → IsReading macros first rest kept × (token ≡ first) × (after ≡ rest)
   kept_reading answer after token given is =
       let moved : Gives (step.Kept token) after = subst (λ (a : Step). Gives a after) is given in
-      (subst (λ (r : Reading). Reads macros first rest r) moved.2.0 moved.1, moved.2.1, moved.2.2)
+      (subst (λ (r : Reading). IsReading macros first rest r) moved.2.0 moved.1, moved.2.1, moved.2.2)
 
   pub refused_reading : (answer : Step) (after : List Marked) (kind : MacroKind) (name : Marked) → Gives answer after → answer ≡ step.Refused kind name
-      → Reads macros first rest (refused kind) × (name ≡ first)
+      → IsReading macros first rest (refused kind) × (name ≡ first)
   refused_reading answer after kind name given is =
       let moved : Gives (step.Refused kind name) after = subst (λ (a : Step). Gives a after) is given in
-      (subst (λ (r : Reading). Reads macros first rest r) moved.2.0 moved.1, moved.2.1)
+      (subst (λ (r : Reading). IsReading macros first rest r) moved.2.0 moved.1, moved.2.1)
 
   pub replaced_reading : (answer : Step) (after : List Marked) (call : Call) (arguments : List (List Marked)) → Gives answer after → answer ≡ step.Replaced call arguments
-      → Reads macros first rest (replaced call arguments after)
+      → IsReading macros first rest (replaced call arguments after)
   replaced_reading answer after call arguments given is =
       let moved : Gives (step.Replaced call arguments) after = subst (λ (a : Step). Gives a after) is given in
-      subst (λ (r : Reading). Reads macros first rest r) moved.2 moved.1
+      subst (λ (r : Reading). IsReading macros first rest r) moved.2 moved.1
 
-led_all_nil : {A : Type 0} (o : Outcome (List A)) → led_all [] o ≡ o
+led_all_nil : {A : Type 0} (o : ExpansionOutcome (List A)) → led_all [] o ≡ o
 led_all_nil (done rest counted) = refl
 led_all_nil (stopped fault) = refl
 
-led_all_more : {A : Type 0} (xs : List A) (x : A) (o : Outcome (List A)) → led_all xs (led_by x o) ≡ led_all (xs ++ x ∷ []) o
+led_all_more : {A : Type 0} (xs : List A) (x : A) (o : ExpansionOutcome (List A)) → led_all xs (led_by x o) ≡ led_all (xs ++ x ∷ []) o
 led_all_more xs x (done rest counted) = ap (λ l. done l counted) (sym (append_assoc xs (x ∷ []) rest))
 led_all_more xs x (stopped fault) = refl
 
 module _ (macros : List Macro) (room : ℕ) where
   -- what a state gives, by its parts
-  abbrev pub ComesAt : ℕ → List Frame → List Marked → List Marked → Outcome (List Marked) → Type 0
+  abbrev pub ComesAt : ℕ → List Frame → List Marked → List Marked → ExpansionOutcome (List Marked) → Type 0
   ComesAt counted frames before rest outer =
-      (inner : Outcome (List Marked)) × Expands macros room counted rest inner × Resumes macros room frames (led_all before inner) outer
+      (inner : ExpansionOutcome (List Marked)) × Expands macros room counted rest inner × Resumes macros room frames (led_all before inner) outer
 
-  pub comes_moved : (counted later : ℕ) (frames frames' : List Frame) (before before' rest rest' : List Marked) (outer : Outcome (List Marked))
+  pub comes_moved : (counted later : ℕ) (frames frames' : List Frame) (before before' rest rest' : List Marked) (outer : ExpansionOutcome (List Marked))
       → counted ≡ later → frames ≡ frames' → before ≡ before' → rest ≡ rest' → ComesAt counted frames before rest outer → ComesAt later frames' before' rest' outer
   comes_moved counted later frames frames' before before' rest rest' outer c f b r comes =
       subst (λ (n : ℕ). ComesAt n frames' before' rest' outer) c
@@ -86,7 +86,7 @@ module _ (macros : List Macro) (room : ℕ) where
       (subst (λ (l : List Marked). ComesAt counted frames before l outer) r comes)))
 
   -- a call whose arguments that wait are the same
-  pub waits_moved : (counted : ℕ) (frames : List Frame) (frame : Frame) (waiting : List (List Marked)) (outer : Outcome (List Marked)) → waiting ≡ frame.waiting
+  pub waits_moved : (counted : ℕ) (frames : List Frame) (frame : Frame) (waiting : List (List Marked)) (outer : ExpansionOutcome (List Marked)) → waiting ≡ frame.waiting
       → GoesOn macros room record frame { waiting = waiting } counted frames outer → GoesOn macros room frame counted frames outer
   waits_moved counted frames frame waiting outer e goes =
       subst (λ (w : List (List Marked)). GoesOn macros room record frame { waiting = w } counted frames outer) e goes
@@ -95,27 +95,27 @@ module _ (macros : List Macro) (room : ℕ) where
   stopped_resumes [] fault = refl
   stopped_resumes (frame ∷ frames) fault = (stopped fault, refl, stopped_resumes frames fault)
 
-  pub kept_comes : (counted : ℕ) (frames : List Frame) (before : List Marked) (t : Marked) (rest : List Marked) (outer : Outcome (List Marked))
-      → Reads macros t rest kept → ComesAt counted frames (before ++ t ∷ []) rest outer → ComesAt counted frames before (t ∷ rest) outer
+  pub kept_comes : (counted : ℕ) (frames : List Frame) (before : List Marked) (t : Marked) (rest : List Marked) (outer : ExpansionOutcome (List Marked))
+      → IsReading macros t rest kept → ComesAt counted frames (before ++ t ∷ []) rest outer → ComesAt counted frames before (t ∷ rest) outer
   kept_comes counted frames before t rest outer reads comes =
-      (led_by t comes.0, keeps reads comes.1, subst (λ (o : Outcome (List Marked)). Resumes macros room frames o outer) (sym (led_all_more before t comes.0)) comes.2)
+      (led_by t comes.0, keeps reads comes.1, subst (λ (o : ExpansionOutcome (List Marked)). Resumes macros room frames o outer) (sym (led_all_more before t comes.0)) comes.2)
 
   pub refused_comes : (counted : ℕ) (frames : List Frame) (before : List Marked) (t : Marked) (rest : List Marked) (kind : MacroKind)
-      → Reads macros t rest (refused kind) → ComesAt counted frames before (t ∷ rest) (stopped (fault_at kind t))
+      → IsReading macros t rest (refused kind) → ComesAt counted frames before (t ∷ rest) (stopped (fault_at kind t))
   refused_comes counted frames before t rest kind reads =
       (stopped (fault_at kind t), refuses reads, stopped_resumes frames (fault_at kind t))
 
-  pub replaced_comes : (counted : ℕ) (frames : List Frame) (t : Marked) (rest : List Marked) (frame : Frame) (outer : Outcome (List Marked))
-      → Reads macros t rest (replaced frame.call frame.waiting frame.rest) → frame.fulls ≡ [] → GoesOn macros room frame counted frames outer
+  pub replaced_comes : (counted : ℕ) (frames : List Frame) (t : Marked) (rest : List Marked) (frame : Frame) (outer : ExpansionOutcome (List Marked))
+      → IsReading macros t rest (replaced frame.call frame.waiting frame.rest) → frame.fulls ≡ [] → GoesOn macros room frame counted frames outer
       → ComesAt counted frames frame.done (t ∷ rest) outer
   replaced_comes counted frames t rest frame outer reads empty goes =
       let fin = goes.1 in (
         fin.rest,
-        replaces reads fin.each (subst (λ (m : Outcome (List (List Marked))). Continues macros room frame.call frame.rest m fin.rest) (ap (λ (f : List (List Marked)). led_all f fin.more) empty ∙ led_all_nil fin.more) fin.continues),
-        subst (λ (o : Outcome (List Marked)). Resumes macros room frames o outer) fin.whole_is goes.2,
+        replaces reads fin.each (subst (λ (m : ExpansionOutcome (List (List Marked))). Continues macros room frame.call frame.rest m fin.rest) (ap (λ (f : List (List Marked)). led_all f fin.more) empty ∙ led_all_nil fin.more) fin.continues),
+        subst (λ (o : ExpansionOutcome (List Marked)). Resumes macros room frames o outer) fin.whole_is goes.2,
       )
 
-  pub ended_comes : (counted : ℕ) (frames : List Frame) (frame next : Frame) (before : List Marked) (outer : Outcome (List Marked))
+  pub ended_comes : (counted : ℕ) (frames : List Frame) (frame next : Frame) (before : List Marked) (outer : ExpansionOutcome (List Marked))
       → next.call ≡ frame.call → next.waiting ≡ frame.waiting → next.done ≡ frame.done → next.rest ≡ frame.rest → next.fulls ≡ frame.fulls ++ before ∷ []
       → GoesOn macros room next counted frames outer → ComesAt counted (frame ∷ frames) before [] outer
   ended_comes counted frames frame next before outer call waiting front rest fulls goes =
@@ -140,7 +140,7 @@ module _ (macros : List Macro) (room : ℕ) where
   pub finished_comes : (counted : ℕ) (before : List Marked) → ComesAt counted [] before [] (done before counted)
   finished_comes counted before = (done [] counted, nothing, ap (λ l. done l counted) (sym (append-nil before)))
 
-  argument_finishes : (counted : ℕ) (frame next : Frame) (argument : List Marked) (inner whole : Outcome (List Marked))
+  argument_finishes : (counted : ℕ) (frame next : Frame) (argument : List Marked) (inner whole : ExpansionOutcome (List Marked))
       → next.call ≡ frame.call → frame.waiting ≡ argument ∷ next.waiting → next.done ≡ frame.done → next.rest ≡ frame.rest → next.fulls ≡ frame.fulls
       → Expands macros room counted argument inner → ResumesOne macros room next (led_all [] inner) whole → Finishes macros room frame frame.fulls counted whole
   argument_finishes counted frame next argument (stopped fault) whole call waiting front rest fulls expands one =
@@ -156,20 +156,20 @@ module _ (macros : List Macro) (room : ℕ) where
         more = led_by tokens one.more;
         rest = one.rest;
         each = subst (λ (w : List (List Marked)). ExpandsEach macros room counted w (led_by tokens one.more)) (sym waiting) (each expands one.each);
-        continues = subst (λ (m : Outcome (List (List Marked))). Continues macros room frame.call frame.rest m one.rest) (sym (led_all_more frame.fulls tokens one.more))
+        continues = subst (λ (m : ExpansionOutcome (List (List Marked))). Continues macros room frame.call frame.rest m one.rest) (sym (led_all_more frame.fulls tokens one.more))
             (subst (λ (f : List (List Marked)). Continues macros room frame.call frame.rest (led_all (f ++ tokens ∷ []) one.more) one.rest) fulls
             (subst (λ (r : List Marked). Continues macros room frame.call r (led_all (next.fulls ++ tokens ∷ []) one.more) one.rest) rest
             (subst (λ (k : Call). Continues macros room k next.rest (led_all (next.fulls ++ tokens ∷ []) one.more) one.rest) call one.continues)));
         whole_is = one.whole_is ∙ ap (λ (d : List Marked). led_all d one.rest) front;
       }
 
-  pub argument_goes : (counted : ℕ) (frames : List Frame) (frame next : Frame) (argument : List Marked) (outer : Outcome (List Marked))
+  pub argument_goes : (counted : ℕ) (frames : List Frame) (frame next : Frame) (argument : List Marked) (outer : ExpansionOutcome (List Marked))
       → next.call ≡ frame.call → frame.waiting ≡ argument ∷ next.waiting → next.done ≡ frame.done → next.rest ≡ frame.rest → next.fulls ≡ frame.fulls
       → ComesAt counted (next ∷ frames) [] argument outer → GoesOn macros room frame counted frames outer
   argument_goes counted frames frame next argument outer call waiting front rest fulls comes =
       (comes.2.0, argument_finishes counted frame next argument comes.0 comes.2.0 call waiting front rest fulls comes.1 comes.2.1, comes.2.2)
 
-  continued : (counted : ℕ) (frame : Frame) (rest : Outcome (List Marked)) → frame.waiting ≡ [] → Continues macros room frame.call frame.rest (done frame.fulls counted) rest
+  continued : (counted : ℕ) (frame : Frame) (rest : ExpansionOutcome (List Marked)) → frame.waiting ≡ [] → Continues macros room frame.call frame.rest (done frame.fulls counted) rest
       → Finishes macros room frame frame.fulls counted (led_all frame.done rest)
   continued counted frame rest waiting goes =
       record {
@@ -180,24 +180,24 @@ module _ (macros : List Macro) (room : ℕ) where
         whole_is = refl;
       }
 
-  pub put_goes : (counted : ℕ) (frames : List Frame) (frame : Frame) (put : List Marked) (outer : Outcome (List Marked)) → frame.waiting ≡ []
-      → IsPut frame.call frame.fulls put → counted + length put ≤ room → ComesAt (counted + length put) frames frame.done (put ++ frame.rest) outer
+  pub put_goes : (counted : ℕ) (frames : List Frame) (frame : Frame) (put : List Marked) (outer : ExpansionOutcome (List Marked)) → frame.waiting ≡ []
+      → IsReplacement frame.call frame.fulls put → counted + length put ≤ room → ComesAt (counted + length put) frames frame.done (put ++ frame.rest) outer
       → GoesOn macros room frame counted frames outer
   put_goes counted frames frame put outer waiting is fits comes =
       (led_all frame.done comes.0, continued counted frame comes.0 waiting (again is fits comes.1), comes.2)
 
-  pub unpasted_goes : (counted : ℕ) (frames : List Frame) (frame : Frame) → frame.waiting ≡ [] → ((put : List Marked) → IsPut frame.call frame.fulls put → ⊥)
+  pub unpasted_goes : (counted : ℕ) (frames : List Frame) (frame : Frame) → frame.waiting ≡ [] → ((put : List Marked) → IsReplacement frame.call frame.fulls put → ⊥)
       → GoesOn macros room frame counted frames (stopped (fault_at BadPaste frame.call.name))
   unpasted_goes counted frames frame waiting no_put =
       (stopped (fault_at BadPaste frame.call.name), continued counted frame (stopped (fault_at BadPaste frame.call.name)) waiting (unpasted no_put), stopped_resumes frames (fault_at BadPaste frame.call.name))
 
-  pub too_long_goes : (counted : ℕ) (frames : List Frame) (frame : Frame) (put : List Marked) → frame.waiting ≡ [] → IsPut frame.call frame.fulls put
+  pub too_long_goes : (counted : ℕ) (frames : List Frame) (frame : Frame) (put : List Marked) → frame.waiting ≡ [] → IsReplacement frame.call frame.fulls put
       → room < counted + length put → GoesOn macros room frame counted frames (stopped (fault_at TooLong frame.call.name))
   too_long_goes counted frames frame put waiting is over =
       (stopped (fault_at TooLong frame.call.name), continued counted frame (stopped (fault_at TooLong frame.call.name)) waiting (passes is over), stopped_resumes frames (fault_at TooLong frame.call.name))
 
   -- at the beginning no call is open and nothing is done
-  pub whole : (state : Expander) (tokens : List Marked) (outer : Outcome (List Marked)) → state.counted ≡ 0 → state.calls ≡ [] → state.done ≡ [] → state.rest ≡ tokens
+  pub whole : (state : Expander) (tokens : List Marked) (outer : ExpansionOutcome (List Marked)) → state.counted ≡ 0 → state.calls ≡ [] → state.done ≡ [] → state.rest ≡ tokens
       → Comes macros room state outer → Expands macros room 0 tokens outer
   whole state tokens outer counted calls before rest comes =
       let start : ComesAt 0 [] [] tokens outer =
@@ -205,7 +205,7 @@ module _ (macros : List Macro) (room : ℕ) where
       (subst (λ (f : List Frame). ComesAt state.counted f [] tokens outer) calls
       (subst (λ (d : List Marked). ComesAt state.counted state.calls d tokens outer) before
       (subst (λ (r : List Marked). ComesAt state.counted state.calls state.done r outer) rest comes))) in
-      subst (λ (o : Outcome (List Marked)). Expands macros room 0 tokens o) (sym (start.2 ∙ led_all_nil start.0)) start.1
+      subst (λ (o : ExpansionOutcome (List Marked)). Expands macros room 0 tokens o) (sym (start.2 ∙ led_all_nil start.0)) start.1
 
 -- ---- the weights
 

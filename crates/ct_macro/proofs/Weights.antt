@@ -8,7 +8,7 @@ use Rattle.ct_macro_call.specs.Words.{is_open}
 use Rattle.ct_macro_call.specs.Calls.{AreArguments, fewer, separators, is_no_argument, fixed_arguments, variadic_arguments, arguments_for}
 use Rattle.ct_macro_call.specs.Sets.{is_in}
 use Rattle.ct_macro_call.specs.Substitution.{selected, full_arguments, names_in, operands_of, is_full}
-use Rattle.ct_macro.specs.Expansion.{Use, stays, object, opened, use_of, use_of_found, use_of_macro, use_of_function, macro_of, replaced, reading_of_call, ReadsUse, Reads}
+use Rattle.ct_macro.specs.Expansion.{Use, stays, object, opened, use_of, use_of_found, use_of_macro, use_of_function, macro_of, replaced, reading_of_call, ReadsUse, IsReading}
 use Rattle.ct_macro.specs.Machine.{weight_each}
 
 arguments_weight : (most : Option ℕ) (inside : List Marked) (arguments : List (List Marked)) → AreArguments most inside arguments → weight_each arguments ≡ length inside + 1
@@ -104,6 +104,6 @@ use_lighter first rest (opened place m names behind) call fulls after lengths (i
 
 -- a replacement leaves no more to read than stood there, its arguments that are to be expanded among it
 pub reads_lighter : (macros : List Macro) (first : Marked) (rest : List Marked) (call : Call) (fulls : List (List Marked)) (after : List Marked)
-    → Reads macros first rest (replaced call fulls after) → weight_each fulls + length after ≤ length rest
+    → IsReading macros first rest (replaced call fulls after) → weight_each fulls + length after ≤ length rest
 reads_lighter macros first rest call fulls after reads =
     use_lighter first rest (use_of macros first rest) call fulls after (λ place m names behind e. opened_length (macro_of macros first.token) first place m names rest behind e) reads

@@ -16,7 +16,7 @@ use Rattle.ct_macro_call.specs.Definition.{is_named}
 use Rattle.ct_macro_call.specs.Calls.{IsCall, IsOpenCall, AreArguments, separators, arguments_for}
 use Rattle.ct_macro_call.specs.Sets.{is_in, common}
 use Rattle.ct_macro_call.specs.declared.call.Call.{Call}
-use Rattle.ct_macro_call.specs.Substitution.{IsPut, call_of, full_arguments}
+use Rattle.ct_macro_call.specs.Substitution.{IsReplacement, call_of, full_arguments}
 
 -- ---- what is replaced
 
@@ -28,7 +28,7 @@ line_macro token =
 -- the macro of a name, with its place in the table
 abbrev pub placed_macro : ℕ → List ℕ → List Macro → Option (ℕ × Macro)
 placed_macro place name [] = None
-placed_macro place name (m ∷ macros) = if is_named name m then Some (place, m) else placed_macro (place + 1) name macros
+placed_macro place name (definition ∷ macros) = if is_named name definition then Some (place, definition) else placed_macro (place + 1) name macros
 
 abbrev pub macro_of : List Macro → Token → Option (ℕ × Macro)
 macro_of macros token =
@@ -38,16 +38,16 @@ macro_of macros token =
 -- function-like one with its parameter list and an opening parenthesis behind it.
 pub data Use : Type 0 where
   stays : Use
-  object : (place : ℕ) → (m : Macro) → Use
-  opened : (place : ℕ) → (m : Macro) → (names : List (List ℕ)) → (behind : List Marked) → Use
+  object : (place : ℕ) → (definition : Macro) → Use
+  opened : (place : ℕ) → (definition : Macro) → (names : List (List ℕ)) → (behind : List Marked) → Use
 
 abbrev pub use_of_function : ℕ → Macro → List (List ℕ) → List Marked → Use
-use_of_function place m names [] = stays
-use_of_function place m names (next ∷ behind) = if is_open next.token then opened place m names behind else stays
+use_of_function place definition names [] = stays
+use_of_function place definition names (next ∷ behind) = if is_open next.token then opened place definition names behind else stays
 
 abbrev pub use_of_macro : ℕ → Macro → Option (List (List ℕ)) → List Marked → Use
-use_of_macro place m None rest = object place m
-use_of_macro place m (Some names) rest = use_of_function place m names rest
+use_of_macro place definition None rest = object place definition
+use_of_macro place definition (Some names) rest = use_of_function place definition names rest
 
 abbrev pub use_of_found : Option (ℕ × Macro) → Marked → List Marked → Use
 use_of_found None first rest = stays
@@ -66,63 +66,63 @@ pub data Reading : Type 0 where
 
 -- the result of an object-like macro gets the macros that may not expand its name, and the macro itself
 abbrev pub reading_of_object : Marked → ℕ → Macro → List Marked → Reading
-reading_of_object name place m rest = replaced (call_of name m (name.hidden ++ place ∷ []) []) (full_arguments m []) rest
+reading_of_object name place definition rest = replaced (call_of name definition (name.hidden ++ place ∷ []) []) (full_arguments definition []) rest
 
 -- that of a function-like macro gets the macro, and those that may expand neither its name nor the closing parenthesis
 abbrev pub reading_of_call : Marked → ℕ → Macro → Marked → List Marked → Option (List (List Marked)) → Reading
-reading_of_call name place m close after None = refused Arguments
-reading_of_call name place m close after (Some arguments) =
-    replaced (call_of name m (common name.hidden close.hidden ++ place ∷ []) arguments) (full_arguments m arguments) after
+reading_of_call name place definition close after None = refused Arguments
+reading_of_call name place definition close after (Some arguments) =
+    replaced (call_of name definition (common name.hidden close.hidden ++ place ∷ []) arguments) (full_arguments definition arguments) after
 
-pub record ReadsCall (name : Marked) (place : ℕ) (m : Macro) (names : List (List ℕ)) (behind : List Marked) (reading : Reading) : Type 0 where
+pub record ReadsCall (name : Marked) (place : ℕ) (definition : Macro) (names : List (List ℕ)) (behind : List Marked) (reading : Reading) : Type 0 where
   pub inside : List Marked
   pub close : Marked
   pub after : List Marked
   pub arguments : List (List Marked)
   pub call : IsCall behind inside close after
-  pub separated : AreArguments (separators m.variadic names) inside arguments
-  pub reading_is : reading ≡ reading_of_call name place m close after (arguments_for m.variadic (length names) arguments)
+  pub separated : AreArguments (separators definition.variadic names) inside arguments
+  pub reading_is : reading ≡ reading_of_call name place definition close after (arguments_for definition.variadic (length names) arguments)
 
 abbrev pub ReadsUse : Marked → List Marked → Use → Reading → Type 0
 ReadsUse first rest stays reading = reading ≡ kept
-ReadsUse first rest (object place m) reading = reading ≡ reading_of_object first place m rest
-ReadsUse first rest (opened place m names behind) reading =
-    (IsOpenCall behind × (reading ≡ refused OpenCall)) ⊎ ReadsCall first place m names behind reading
+ReadsUse first rest (object place definition) reading = reading ≡ reading_of_object first place definition rest
+ReadsUse first rest (opened place definition names behind) reading =
+    (IsOpenCall behind × (reading ≡ refused OpenCall)) ⊎ ReadsCall first place definition names behind reading
 
-abbrev pub Reads : List Macro → Marked → List Marked → Reading → Type 0
-Reads macros first rest reading = ReadsUse first rest (use_of macros first rest) reading
+abbrev pub IsReading : List Macro → Marked → List Marked → Reading → Type 0
+IsReading macros first rest reading = ReadsUse first rest (use_of macros first rest) reading
 
 -- ---- the whole list
 
 -- the tokens, or lists of them, with the number of tokens put so far; or the first refusal
-pub data Outcome (T : Type 0) : Type 0 where
-  done : (tokens : T) → (counted : ℕ) → Outcome T
-  stopped : (fault : MacroFault) → Outcome T
+pub data ExpansionOutcome (T : Type 0) : Type 0 where
+  done : (tokens : T) → (counted : ℕ) → ExpansionOutcome T
+  stopped : (fault : MacroFault) → ExpansionOutcome T
 
 abbrev pub fault_at : MacroKind → Marked → MacroFault
 fault_at kind name = record { kind = kind; name = name.token.text; line = name.token.span.line }
 
-abbrev pub led_by : {A : Type 0} → A → Outcome (List A) → Outcome (List A)
+abbrev pub led_by : {A : Type 0} → A → ExpansionOutcome (List A) → ExpansionOutcome (List A)
 led_by first (done rest counted) = done (first ∷ rest) counted
 led_by first (stopped fault) = stopped fault
 
 module _ (macros : List Macro) (room : ℕ) where
   mutual
     -- what a list becomes, where so many tokens were put before
-    pub data Expands : ℕ → List Marked → Outcome (List Marked) → Type 0 where
+    pub data Expands : ℕ → List Marked → ExpansionOutcome (List Marked) → Type 0 where
       nothing : {counted : ℕ} → Expands counted [] (done [] counted)
-      keeps : {counted : ℕ} {first : Marked} {rest : List Marked} {outcome : Outcome (List Marked)} → Reads macros first rest kept
+      keeps : {counted : ℕ} {first : Marked} {rest : List Marked} {outcome : ExpansionOutcome (List Marked)} → IsReading macros first rest kept
           → Expands counted rest outcome → Expands counted (first ∷ rest) (led_by first outcome)
-      refuses : {counted : ℕ} {first : Marked} {rest : List Marked} {kind : MacroKind} → Reads macros first rest (refused kind)
+      refuses : {counted : ℕ} {first : Marked} {rest : List Marked} {kind : MacroKind} → IsReading macros first rest (refused kind)
           → Expands counted (first ∷ rest) (stopped (fault_at kind first))
-      replaces : {counted : ℕ} {first : Marked} {rest : List Marked} {call : Call} {arguments : List (List Marked)} {after : List Marked} {fulls : Outcome (List (List Marked))} {outcome : Outcome (List Marked)}
-          → Reads macros first rest (replaced call arguments after) → ExpandsEach counted arguments fulls
+      replaces : {counted : ℕ} {first : Marked} {rest : List Marked} {call : Call} {arguments : List (List Marked)} {after : List Marked} {fulls : ExpansionOutcome (List (List Marked))} {outcome : ExpansionOutcome (List Marked)}
+          → IsReading macros first rest (replaced call arguments after) → ExpandsEach counted arguments fulls
           → Continues call after fulls outcome → Expands counted (first ∷ rest) outcome
 
     -- what each of some lists becomes, one after another
-    pub data ExpandsEach : ℕ → List (List Marked) → Outcome (List (List Marked)) → Type 0 where
+    pub data ExpandsEach : ℕ → List (List Marked) → ExpansionOutcome (List (List Marked)) → Type 0 where
       none : {counted : ℕ} → ExpandsEach counted [] (done [] counted)
-      each : {counted later : ℕ} {first tokens : List Marked} {rest : List (List Marked)} {outcome : Outcome (List (List Marked))}
+      each : {counted later : ℕ} {first tokens : List Marked} {rest : List (List Marked)} {outcome : ExpansionOutcome (List (List Marked))}
           → Expands counted first (done tokens later) → ExpandsEach later rest outcome
           → ExpandsEach counted (first ∷ rest) (led_by tokens outcome)
       ends : {counted : ℕ} {first : List Marked} {rest : List (List Marked)} {fault : MacroFault}
@@ -130,16 +130,16 @@ module _ (macros : List Macro) (room : ℕ) where
 
     -- what a call and the tokens behind it become, once the arguments are expanded: what the call puts is counted, and
     -- read again together with the tokens behind
-    pub data Continues : Call → List Marked → Outcome (List (List Marked)) → Outcome (List Marked) → Type 0 where
+    pub data Continues : Call → List Marked → ExpansionOutcome (List (List Marked)) → ExpansionOutcome (List Marked) → Type 0 where
       stops : {call : Call} {after : List Marked} {fault : MacroFault} → Continues call after (stopped fault) (stopped fault)
       unpasted : {call : Call} {after : List Marked} {fulls : List (List Marked)} {counted : ℕ}
-          → ((put : List Marked) → IsPut call fulls put → ⊥)
+          → ((put : List Marked) → IsReplacement call fulls put → ⊥)
           → Continues call after (done fulls counted) (stopped (fault_at BadPaste call.name))
       passes : {call : Call} {after : List Marked} {fulls : List (List Marked)} {counted : ℕ} {put : List Marked}
-          → IsPut call fulls put → room < counted + length put
+          → IsReplacement call fulls put → room < counted + length put
           → Continues call after (done fulls counted) (stopped (fault_at TooLong call.name))
-      again : {call : Call} {after : List Marked} {fulls : List (List Marked)} {counted : ℕ} {put : List Marked} {outcome : Outcome (List Marked)}
-          → IsPut call fulls put → counted + length put ≤ room → Expands (counted + length put) (put ++ after) outcome
+      again : {call : Call} {after : List Marked} {fulls : List (List Marked)} {counted : ℕ} {put : List Marked} {outcome : ExpansionOutcome (List Marked)}
+          → IsReplacement call fulls put → counted + length put ≤ room → Expands (counted + length put) (put ++ after) outcome
           → Continues call after (done fulls counted) outcome
 
 -- ---- the list of a text

@@ -6,7 +6,7 @@ use Rattle.ct_macro.specs.declared.reading.Step.{Step}
 use Rattle.ct_macro.specs.declared.reading.Step.TheVariants as step
 use Rattle.ct_macro.specs.declared.expander.Frame.{Frame}
 use Rattle.ct_macro.specs.declared.expander.Expander.{Expander}
-use Rattle.ct_macro.specs.Expansion.{Reading, kept, refused, replaced, Outcome, done, stopped, Expands, ExpandsEach, Continues}
+use Rattle.ct_macro.specs.Expansion.{Reading, kept, refused, replaced, ExpansionOutcome, done, stopped, Expands, ExpandsEach, Continues}
 
 -- the code's answer for a token is this reading; what is left behind it
 abbrev pub StepGives : Marked → List Marked → Step → List Marked → Reading → Type 0
@@ -15,36 +15,36 @@ StepGives first rest (step.Refused kind name) after reading = (reading ≡ refus
 StepGives first rest (step.Replaced call fulls) after reading = reading ≡ replaced call fulls after
 
 -- tokens before those of an outcome
-abbrev pub led_all : {A : Type 0} → List A → Outcome (List A) → Outcome (List A)
+abbrev pub led_all : {A : Type 0} → List A → ExpansionOutcome (List A) → ExpansionOutcome (List A)
 led_all before (done rest counted) = done (before ++ rest) counted
 led_all before (stopped fault) = stopped fault
 
 module _ (macros : List Macro) (room : ℕ) where
   -- what the list becomes in which a call stands, once so many of its arguments are expanded
-  pub record Finishes (frame : Frame) (fulls : List (List Marked)) (counted : ℕ) (whole : Outcome (List Marked)) : Type 0 where
-    pub more : Outcome (List (List Marked))
-    pub rest : Outcome (List Marked)
+  pub record Finishes (frame : Frame) (fulls : List (List Marked)) (counted : ℕ) (whole : ExpansionOutcome (List Marked)) : Type 0 where
+    pub more : ExpansionOutcome (List (List Marked))
+    pub rest : ExpansionOutcome (List Marked)
     pub each : ExpandsEach macros room counted frame.waiting more
     pub continues : Continues macros room frame.call frame.rest (led_all fulls more) rest
     pub whole_is : whole ≡ led_all frame.done rest
 
   -- the same, from what the argument that is being expanded becomes
-  abbrev pub ResumesOne : Frame → Outcome (List Marked) → Outcome (List Marked) → Type 0
+  abbrev pub ResumesOne : Frame → ExpansionOutcome (List Marked) → ExpansionOutcome (List Marked) → Type 0
   ResumesOne frame (stopped fault) whole = whole ≡ stopped fault
   ResumesOne frame (done tokens counted) whole = Finishes frame (frame.fulls ++ tokens ∷ []) counted whole
 
   -- what the whole list becomes, from what the innermost one does
-  abbrev pub Resumes : List Frame → Outcome (List Marked) → Outcome (List Marked) → Type 0
+  abbrev pub Resumes : List Frame → ExpansionOutcome (List Marked) → ExpansionOutcome (List Marked) → Type 0
   Resumes [] inner outer = outer ≡ inner
-  Resumes (frame ∷ frames) inner outer = (whole : Outcome (List Marked)) × ResumesOne frame inner whole × Resumes frames whole outer
+  Resumes (frame ∷ frames) inner outer = (whole : ExpansionOutcome (List Marked)) × ResumesOne frame inner whole × Resumes frames whole outer
 
-  abbrev pub GoesOn : Frame → ℕ → List Frame → Outcome (List Marked) → Type 0
+  abbrev pub GoesOn : Frame → ℕ → List Frame → ExpansionOutcome (List Marked) → Type 0
   GoesOn frame counted frames outer =
-      (whole : Outcome (List Marked)) × Finishes frame frame.fulls counted whole × Resumes frames whole outer
+      (whole : ExpansionOutcome (List Marked)) × Finishes frame frame.fulls counted whole × Resumes frames whole outer
 
-  abbrev pub Comes : Expander → Outcome (List Marked) → Type 0
+  abbrev pub Comes : Expander → ExpansionOutcome (List Marked) → Type 0
   Comes state outer =
-      (inner : Outcome (List Marked)) × Expands macros room state.counted state.rest inner × Resumes state.calls (led_all state.done inner) outer
+      (inner : ExpansionOutcome (List Marked)) × Expands macros room state.counted state.rest inner × Resumes state.calls (led_all state.done inner) outer
 
 -- ---- how much is still to be read
 

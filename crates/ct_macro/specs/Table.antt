@@ -16,6 +16,6 @@ IsTable (entry ∷ entries) =
 
 -- a definition that breaks a rule on its own is refused for that, another one where a different definition stands
 abbrev pub Refuses : List Macro → Macro → MacroFault → Type 0
-Refuses macros m fault =
-    ((is_malformed m ≡ true) × (fault ≡ record { kind = BadDefinition; name = m.name; line = 0 }))
-    ⊎ ((is_malformed m ≡ false) × IsRedefined macros m × (fault ≡ record { kind = Redefined; name = m.name; line = 0 }))
+Refuses macros definition fault =
+    ((is_malformed definition ≡ true) × (fault ≡ record { kind = BadDefinition; name = definition.name; line = 0 }))
+    ⊎ ((is_malformed definition ≡ false) × IsRedefined macros definition × (fault ≡ record { kind = Redefined; name = definition.name; line = 0 }))

@@ -70,7 +70,7 @@ impl Expander {
     fn put(&mut self, alloc: Global, room: u64, frame: Frame) -> Out<(), MacroFault>
         requires room { self.old.counted ≤ room }
         requires ready { frame.waiting ≡ [] }
-        ensures ok { OnOk result ((macros : List declared_macro.Macro) (outer : spec.Outcome (List Marked)) → Comes macros room self.new outer
+        ensures ok { OnOk result ((macros : List declared_macro.Macro) (outer : spec.ExpansionOutcome (List Marked)) → Comes macros room self.new outer
             → GoesOn macros room frame self.old.counted self.old.calls outer) }
         ensures within { OnOk result ((self.new.counted ≤ room)
             × (weight room self.new < 2 * (room - self.old.counted) + weight_frame frame + weight_frames self.old.calls)) }
@@ -101,7 +101,7 @@ impl Expander {
     #[tactic(none)]
     fn go_on(&mut self, alloc: Global, room: u64, frame: Frame) -> Out<(), MacroFault>
         requires { self.old.counted ≤ room }
-        ensures ok { OnOk result ((macros : List declared_macro.Macro) (outer : spec.Outcome (List Marked)) → Comes macros room self.new outer
+        ensures ok { OnOk result ((macros : List declared_macro.Macro) (outer : spec.ExpansionOutcome (List Marked)) → Comes macros room self.new outer
             → GoesOn macros room frame self.old.counted self.old.calls outer) }
         ensures within { OnOk result ((self.new.counted ≤ room)
             × (weight room self.new < 2 * (room - self.old.counted) + weight_frame frame + weight_frames self.old.calls)) }
@@ -128,7 +128,7 @@ impl Expander {
         requires ended { self.old.rest ≡ [] }
         ensures ends { IfOk result (λ more. more ≡ false → (macros : List declared_macro.Macro)
             → Comes macros room self.old (spec.done self.new.done self.new.counted)) }
-        ensures goes { IfOk result (λ more. more ≡ true → (macros : List declared_macro.Macro) (outer : spec.Outcome (List Marked))
+        ensures goes { IfOk result (λ more. more ≡ true → (macros : List declared_macro.Macro) (outer : spec.ExpansionOutcome (List Marked))
             → Comes macros room self.new outer → Comes macros room self.old outer) }
         ensures within { IfOk result (λ more. more ≡ true → (self.new.counted ≤ room) × (weight room self.new < weight room self.old)) }
         ensures fault { IfFault result (λ fault. (macros : List declared_macro.Macro) → Comes macros room self.old (spec.stopped fault)) }
@@ -155,7 +155,7 @@ impl Expander {
         requires { self.old.counted ≤ room }
         ensures goes { OnOk result ((before : declared_state.Expander) → before.counted ≡ self.old.counted → before.calls ≡ self.old.calls
             → before.done ≡ self.old.done → before.rest ≡ first ∷ self.old.rest
-            → (outer : spec.Outcome (List Marked)) → Comes macros.now room self.new outer → Comes macros.now room before outer) }
+            → (outer : spec.ExpansionOutcome (List Marked)) → Comes macros.now room self.new outer → Comes macros.now room before outer) }
         ensures within { OnOk result ((self.new.counted ≤ room) × (weight room self.new < weight room self.old + 1)) }
         ensures fault { IfFault result (λ fault. (before : declared_state.Expander) → before.counted ≡ self.old.counted → before.calls ≡ self.old.calls
             → before.done ≡ self.old.done → before.rest ≡ first ∷ self.old.rest → Comes macros.now room before (spec.stopped fault)) }
@@ -186,7 +186,7 @@ impl Expander {
     fn step(&mut self, alloc: Global, macros: &Macros, room: u64) -> Out<bool, MacroFault>
         requires { self.old.counted ≤ room }
         ensures ends { IfOk result (λ more. more ≡ false → Comes macros.now room self.old (spec.done self.new.done self.new.counted)) }
-        ensures goes { IfOk result (λ more. more ≡ true → (outer : spec.Outcome (List Marked)) → Comes macros.now room self.new outer
+        ensures goes { IfOk result (λ more. more ≡ true → (outer : spec.ExpansionOutcome (List Marked)) → Comes macros.now room self.new outer
             → Comes macros.now room self.old outer) }
         ensures within { IfOk result (λ more. more ≡ true → (self.new.counted ≤ room) × (weight room self.new < weight room self.old)) }
         ensures fault { IfFault result (λ fault. Comes macros.now room self.old (spec.stopped fault)) }

@@ -1,17 +1,14 @@
 //! The expansion of a list of tokens.
 
-ghost use Rattle.std.specs.Prelude.{◌≡◌, false, ℕ, List, IfOk, map};
+ghost use Rattle.std.specs.Prelude.{◌≡◌, false, IfOk, map};
 ghost use Rattle.ct_base.specs.Answers.{IfFault};
-ghost use Rattle.ct_base.specs.declared.lexical.Token.{Token};
-ghost use Rattle.ct_macro_call.specs.declared.definition.Macro.{Macro};
-ghost use Rattle.ct_macro.specs.declared.faults.MacroFault as declared;
 ghost use Rattle.ct_macro.specs.Expansion as spec;
 
 use crate::expander::Expander;
 use crate::faults::MacroFault;
 use crate::table::Macros;
 use ct_base::{Items, Mem, Out, Token, TokenKind};
-use ct_macro_call::{Marked, Source, copy_token, one_replacement};
+use ct_macro_call::{Marked, Source, copy_token};
 use std::alloc::Global;
 
 /// What a list of tokens becomes, and how many tokens were put by replacements, intermediate ones
@@ -83,16 +80,4 @@ pub fn expand(
     } = expander;
     let tokens = stripped(alloc, done)?;
     Ok(Expansion { tokens, counted })
-}
-
-/// A list has one expansion or one first refusal, so `expand` gives that one.
-pub fn one_expansion()
-    ensures one { (macros : List Macro) (tokens a b : List Token) (room m n : ℕ) → spec.IsExpansion macros tokens room a m
-        → spec.IsExpansion macros tokens room b n → (a ≡ b) × (m ≡ n) }
-    ensures apart { (macros : List Macro) (tokens a : List Token) (room m : ℕ) (fault : declared.MacroFault)
-        → spec.IsExpansion macros tokens room a m → spec.IsRefusal macros tokens room fault → ⊥ }
-    ensures refusal { (macros : List Macro) (tokens : List Token) (room : ℕ) (one other : declared.MacroFault)
-        → spec.IsRefusal macros tokens room one → spec.IsRefusal macros tokens room other → one ≡ other }
-{
-    one_replacement();
 }

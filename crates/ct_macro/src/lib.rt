@@ -4,10 +4,12 @@
 mod expander;
 mod expanding;
 mod faults;
+mod laws;
 mod reading;
 mod table;
 
 pub use ct_macro_call::Macro;
-pub use expanding::{Expansion, expand, one_expansion};
+pub use expanding::{Expansion, expand};
 pub use faults::{MacroFault, MacroKind};
+pub use laws::{each_list, one_expansion};
 pub use table::Macros;

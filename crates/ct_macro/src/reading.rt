@@ -129,7 +129,7 @@ pub fn read_token(
     first: Marked,
     rest: &mut Source<Marked>,
 ) -> Mem<Step>
-    ensures reading { IfOk result (λ step. (reading : spec.Reading) × spec.Reads macros.now first rest.old reading
+    ensures reading { IfOk result (λ step. (reading : spec.Reading) × spec.IsReading macros.now first rest.old reading
         × StepGives first rest.old step rest.new reading) }
 {
     if is_line(first.token.text.as_slice()) {

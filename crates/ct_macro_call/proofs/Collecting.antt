@@ -8,7 +8,7 @@ use Rattle.ct_macro_call.specs.declared.marked.Marked.{Marked}
 use Rattle.ct_macro_call.specs.Words.{is_open, is_close}
 use Rattle.ct_macro_call.specs.Calls.{opens, closes, closes_call, separates, IsLevel, NoneAtLevel, IsCall, MaySeparate, fewer, AreArguments}
 use Rattle.ct_macro_call.proofs.Texts.{same_text}
-use Rattle.ct_macro_call.specs.Collected.{Collected, number_of, IsDepthBehind}
+use Rattle.ct_macro_call.specs.Collected.{Collected, count_of, IsDepthBehind}
 
 module _ {A : Type 0} where
   -- where an item stands in a list with one more at its end
@@ -27,17 +27,17 @@ pub none_more : (test : Marked → Bool) (xs : List Marked) (t : Marked) → Non
     → NoneAtLevel test (xs ++ t ∷ [])
 none_more test xs t none at_end = λ before x after e level. elim (split_last xs t before x after e) [ inl p ↦ none before x p.0 p.1 level | inr p ↦ ap test (sym p.1) ∙ at_end (ap opens p.0 ∙ level ∙ sym (ap closes p.0)) ]
 
-opens_more : (xs : List Marked) (t : Marked) → opens (xs ++ t ∷ []) ≡ opens xs + number_of (is_open t.token)
+opens_more : (xs : List Marked) (t : Marked) → opens (xs ++ t ∷ []) ≡ opens xs + count_of (is_open t.token)
 opens_more xs t = by_test (is_open t.token) refl
   where
-    by_test : (b : Bool) → is_open t.token ≡ b → opens (xs ++ t ∷ []) ≡ opens xs + number_of (is_open t.token)
+    by_test : (b : Bool) → is_open t.token ≡ b → opens (xs ++ t ∷ []) ≡ opens xs + count_of (is_open t.token)
     by_test true e = grind (arith, common_steps)
     by_test false e = grind (arith, common_steps)
 
-closes_more : (xs : List Marked) (t : Marked) → closes (xs ++ t ∷ []) ≡ closes xs + number_of (is_close t.token)
+closes_more : (xs : List Marked) (t : Marked) → closes (xs ++ t ∷ []) ≡ closes xs + count_of (is_close t.token)
 closes_more xs t = by_test (is_close t.token) refl
   where
-    by_test : (b : Bool) → is_close t.token ≡ b → closes (xs ++ t ∷ []) ≡ closes xs + number_of (is_close t.token)
+    by_test : (b : Bool) → is_close t.token ≡ b → closes (xs ++ t ∷ []) ≡ closes xs + count_of (is_close t.token)
     by_test true e = grind (arith, common_steps)
     by_test false e = grind (arith, common_steps)
 
@@ -71,10 +71,10 @@ pushed most left tokens rest arguments last t depth behind c not_end not_comma s
       goes_on = λ more others are. subst (λ (l : List Marked). AreArguments most l (arguments ++ others)) (sym (append_assoc c.spent (t ∷ []) more)) (c.goes_on (t ∷ more) others (subst (λ (l : List Marked). AreArguments left l others) (append_assoc last (t ∷ []) more) are));
     }
 
-closes_not_comma : (t : Marked) → separates t ≡ true → (number_of (is_close t.token) ≡ 0) × (number_of (is_open t.token) ≡ 0)
+closes_not_comma : (t : Marked) → separates t ≡ true → (count_of (is_close t.token) ≡ 0) × (count_of (is_open t.token) ≡ 0)
 closes_not_comma t h =
     let is : t.token.text ≡ codes "," = same_text t.token.text (codes ",") h in
-    (ap (λ text. number_of (bytes_eq text (codes ")"))) is, ap (λ text. number_of (bytes_eq text (codes "("))) is)
+    (ap (λ text. count_of (bytes_eq text (codes ")"))) is, ap (λ text. count_of (bytes_eq text (codes "("))) is)
 
 -- a comma that separates
 pub cut : (most left : Option ℕ) (tokens rest : List Marked) (arguments : List (List Marked)) (last : List Marked) (t : Marked) (depth : ℕ)

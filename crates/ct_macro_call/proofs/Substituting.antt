@@ -7,7 +7,7 @@ use Rattle.ct_macro_call.specs.declared.marked.Marked.{Marked}
 use Rattle.ct_macro_call.specs.declared.call.Operand.{Operand}
 use Rattle.ct_macro_call.specs.declared.call.Call.{Call}
 use Rattle.ct_macro_call.specs.Spelled.{Joins, Pastes, respaced}
-use Rattle.ct_macro_call.specs.Substitution.{Puts, IsPut, placed, dressed, has_bytes, tokens_at}
+use Rattle.ct_macro_call.specs.Substitution.{Puts, IsReplacement, placed, dressed, has_bytes, tokens_at}
 use Rattle.ct_macro_call.proofs.Pasting.{OneTokenization, one_pasted, same_last}
 
 -- ---- two lists are pasted in one way
@@ -87,7 +87,7 @@ one_put law tokens (operand ∷ body) left a b one other = by_paste operand.behi
     by_paste true one other same = same one.0 a b one.2 (subst (λ (j : List Marked). Puts tokens j body b) (one_joint law left (tokens operand) other.0 one.0 other.1 one.1) other.2)
     by_paste false one other same = one.2 ∙ ap (λ l. left ++ l) (same (tokens operand) one.0 other.0 one.1 other.1) ∙ sym other.2
 
-pub one_is_put : OneTokenization → (call : Call) (fulls : List (List Marked)) (a b : List Marked) → IsPut call fulls a → IsPut call fulls b → a ≡ b
+pub one_is_put : OneTokenization → (call : Call) (fulls : List (List Marked)) (a b : List Marked) → IsReplacement call fulls a → IsReplacement call fulls b → a ≡ b
 one_is_put law call fulls a b one other =
     one.put_is ∙ ap (λ tokens. placed call.name.token (map (dressed call) (filter has_bytes tokens))) (one_put law (tokens_at call.names call.raws fulls) call.body [] one.tokens other.tokens one.puts other.puts) ∙ sym other.put_is
 

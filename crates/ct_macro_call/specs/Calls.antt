@@ -61,7 +61,7 @@ separators false names = None
 
 abbrev pub is_empty : {A : Type 0} → List A → Bool
 is_empty [] = true
-is_empty (x ∷ xs) = false
+is_empty (argument ∷ arguments) = false
 
 -- `()` without an argument
 abbrev pub is_no_argument : List (List Marked) → Bool

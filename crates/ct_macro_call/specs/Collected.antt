@@ -5,13 +5,13 @@ use Rattle.ct_macro_call.specs.declared.marked.Marked.{Marked}
 use Rattle.ct_macro_call.specs.Words.{is_open, is_close}
 use Rattle.ct_macro_call.specs.Calls.{opens, closes, closes_call, separates, NoneAtLevel, MaySeparate, AreArguments}
 
-abbrev pub number_of : Bool → ℕ
-number_of true = 1
-number_of false = 0
+abbrev pub count_of : Bool → ℕ
+count_of true = 1
+count_of false = 0
 
 -- the parentheses that are open behind a token
 abbrev pub IsDepthBehind : ℕ → Token → ℕ → Type 0
-IsDepthBehind depth token behind = behind + number_of (is_close token) ≡ depth + number_of (is_open token)
+IsDepthBehind depth token behind = behind + count_of (is_close token) ≡ depth + count_of (is_open token)
 
 -- Of these tokens the rest is left, so many inner parentheses are open, so many commas may still separate, and the
 -- arguments before the last are done.

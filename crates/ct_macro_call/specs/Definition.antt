@@ -55,9 +55,9 @@ names_variable None = false
 names_variable (Some names) = list_any (bytes_eq variable_arguments) names
 
 abbrev pub is_malformed : Macro → Bool
-is_malformed m =
-    bytes_eq m.name variable_arguments || has_outer_paste m.body || names_variable m.parameters
-    || has_bad_parameters m.parameters || has_bad_body (parameters_of m) m.body
+is_malformed definition =
+    bytes_eq definition.name variable_arguments || has_outer_paste definition.body || names_variable definition.parameters
+    || has_bad_parameters definition.parameters || has_bad_body (parameters_of definition) definition.body
 
 -- ---- the table
 
@@ -77,7 +77,7 @@ pub record SameDefinition (one other : Macro) : Type 0 where
   pub body : spelling one.body ≡ spelling other.body
 
 abbrev pub is_named : List ℕ → Macro → Bool
-is_named name m = bytes_eq name m.name
+is_named name definition = bytes_eq name definition.name
 
 -- the macro of a name, in a table that has each name once
 abbrev pub macro_named : List ℕ → List Macro → Option Macro
@@ -85,13 +85,13 @@ macro_named name macros = find (is_named name) macros
 
 -- the table after a definition that is not refused: the same definition may stand already
 abbrev pub Defines : List Macro → Macro → List Macro → Type 0
-Defines before m after =
-    MatchOption (macro_named m.name before) (after ≡ before ++ m ∷ [])
-    (λ there. SameDefinition there m × (after ≡ before))
+Defines before definition after =
+    MatchOption (macro_named definition.name before) (after ≡ before ++ definition ∷ [])
+    (λ there. SameDefinition there definition × (after ≡ before))
 
 -- another definition of the name stands
 abbrev pub IsRedefined : List Macro → Macro → Type 0
-IsRedefined macros m = MatchOption (macro_named m.name macros) ⊥ (λ there. SameDefinition there m → ⊥)
+IsRedefined macros definition = MatchOption (macro_named definition.name macros) ⊥ (λ there. SameDefinition there definition → ⊥)
 
 abbrev pub without : List ℕ → List Macro → List Macro
-without name macros = filter (λ m. not (is_named name m)) macros
+without name macros = filter (λ definition. not (is_named name definition)) macros

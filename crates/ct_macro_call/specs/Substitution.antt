@@ -30,14 +30,14 @@ operands function behind None (token ∷ tokens) =
     ∷ operands function false None tokens
 
 abbrev pub is_function : Macro → Bool
-is_function m = has_list m.parameters
+is_function definition = has_list definition.parameters
   where
     has_list : Option (List (List ℕ)) → Bool
     has_list None = false
     has_list (Some names) = true
 
 abbrev pub operands_of : Macro → List Operand
-operands_of m = operands (is_function m) false None m.body
+operands_of definition = operands (is_function definition) false None definition.body
 
 -- ---- the arguments
 
@@ -58,7 +58,7 @@ abbrev pub is_full : List Operand → List ℕ → Bool
 is_full body name = list_any (λ operand. bytes_eq operand.token.text name && not (is_beside operand)) body
 
 abbrev pub names_in : Macro → List (List ℕ)
-names_in m = listed (parameters_of m)
+names_in definition = listed (parameters_of definition)
   where
     listed : Option (List (List ℕ)) → List (List ℕ)
     listed None = []
@@ -135,7 +135,7 @@ dressed call marked =
     record { token = record marked.token { span = call.name.token.span }; hidden = joined marked.hidden call.added }
 
 -- what the call puts, once the arguments that are to be expanded are so
-pub record IsPut (call : Call) (fulls : List (List Marked)) (put : List Marked) : Type 0 where
+pub record IsReplacement (call : Call) (fulls : List (List Marked)) (put : List Marked) : Type 0 where
   pub tokens : List Marked
   pub puts : Puts (tokens_at call.names call.raws fulls) [] call.body tokens
   pub put_is : put ≡ placed call.name.token (map (dressed call) (filter has_bytes tokens))
@@ -143,9 +143,9 @@ pub record IsPut (call : Call) (fulls : List (List Marked)) (put : List Marked) 
 -- A call of a macro with an argument for each parameter: the arguments that are taken as they stand are among its
 -- parts. The places are those that join the set of each token that it puts.
 abbrev pub call_of : Marked → Macro → List ℕ → List (List Marked) → Call
-call_of name m added arguments =
-    record { name = name; added = added; names = names_in m; body = operands_of m; raws = selected (is_raw (operands_of m)) (names_in m) arguments }
+call_of name definition added arguments =
+    record { name = name; added = added; names = names_in definition; body = operands_of definition; raws = selected (is_raw (operands_of definition)) (names_in definition) arguments }
 
 -- the arguments that are to be expanded, and no tokens for the others
 abbrev pub full_arguments : Macro → List (List Marked) → List (List Marked)
-full_arguments m arguments = selected (is_full (operands_of m)) (names_in m) arguments
+full_arguments definition arguments = selected (is_full (operands_of definition)) (names_in definition) arguments

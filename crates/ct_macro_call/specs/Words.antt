@@ -37,8 +37,8 @@ with_variable false names = names
 
 -- the names that stand for arguments in the body of a function-like macro
 abbrev pub parameters_of : Macro → Option (List (List ℕ))
-parameters_of m = listed m.parameters
+parameters_of definition = listed definition.parameters
   where
     listed : Option (List (List ℕ)) → Option (List (List ℕ))
     listed None = None
-    listed (Some names) = Some (with_variable m.variadic names)
+    listed (Some names) = Some (with_variable definition.variadic names)

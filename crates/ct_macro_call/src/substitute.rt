@@ -205,8 +205,8 @@ impl Call {
     /// What the call puts, once the arguments that are to be expanded are so, where each `##` makes
     /// one token.
     pub fn put(&self, alloc: Global, fulls: &[Items<Marked>]) -> Mem<Option<Items<Marked>>>
-        ensures { IfOk result (λ found. MatchOption found ((put : List Marked) → spec.IsPut self.now fulls.now put → ⊥)
-            (λ put. spec.IsPut self.now fulls.now put)) }
+        ensures { IfOk result (λ found. MatchOption found ((put : List Marked) → spec.IsReplacement self.now fulls.now put → ⊥)
+            (λ put. spec.IsReplacement self.now fulls.now put)) }
     {
         let Some(tokens) = self.tokens(alloc, fulls)? else {
             return Ok(None);
@@ -218,7 +218,7 @@ impl Call {
 
 /// A call puts one list of tokens at most, once its arguments are expanded.
 pub fn one_replacement()
-    ensures { (call : declared.Call) (fulls : List (List Marked)) (a b : List Marked) → spec.IsPut call fulls a → spec.IsPut call fulls b → a ≡ b }
+    ensures { (call : declared.Call) (fulls : List (List Marked)) (a b : List Marked) → spec.IsReplacement call fulls a → spec.IsReplacement call fulls b → a ≡ b }
 {
     one_tokenization();
 }

@@ -6,8 +6,8 @@ use Rattle.ct_ppexpr.specs.declared.CondFault.{CondFault}
 use Rattle.ct_ppexpr.specs.declared.CondFault.TheVariants.{Grammar}
 use Rattle.ct_ppexpr.specs.declared.values.Value.{Value}
 use Rattle.ct_ppexpr.specs.declared.words.Word.{Word}
-use Rattle.ct_ppexpr.specs.Values.{Outcome}
-use Rattle.ct_ppexpr.specs.Trees.{Tree, Spells, value_of}
+use Rattle.ct_ppexpr.specs.Values.{Evaluated}
+use Rattle.ct_ppexpr.specs.Trees.{Tree, SpellsCondition, value_of}
 use Rattle.ct_ppexpr.specs.Machine.{run_all, values}
 use Rattle.ct_ppexpr.specs.Words.{AreWords}
 use Rattle.ct_ppexpr.specs.Conditions.{Evaluates, IsNoExpression, answer_of, HasValue}
@@ -15,7 +15,7 @@ use Rattle.ct_ppexpr.proofs.Reading.{same_words}
 use Rattle.ct_ppexpr.proofs.Both.{Tells, tells, one_tree}
 
 -- the words are an expression with this value
-pub evaluates : (tokens : List Token) (words : List Word) (value : Value) (outcome : Outcome) → AreWords tokens words → Some value ≡ run_all values words → value.outcome ≡ outcome → Evaluates tokens outcome
+pub evaluates : (tokens : List Token) (words : List Word) (value : Value) (outcome : Evaluated) → AreWords tokens words → Some value ≡ run_all values words → value.outcome ≡ outcome → Evaluates tokens outcome
 evaluates tokens words value outcome are run is =
     let told = subst (Tells words) (sym run) (tells words) in
     (words, told.0, are, told.1, ap (λ (v : Value). v.outcome) told.2 ∙ is)
@@ -24,16 +24,16 @@ evaluates tokens words value outcome are run is =
 pub no_expression : (tokens : List Token) (words : List Word) → AreWords tokens words → None ≡ run_all values words → IsNoExpression tokens
 no_expression tokens words are run others tree are' h =
     let told = subst (Tells words) (sym run) (tells words) in
-    told tree (subst (Spells tree) (same_words tokens others words are' are) h)
+    told tree (subst (SpellsCondition tree) (same_words tokens others words are' are) h)
 
 -- one outcome
-pub one_outcome : (tokens : List Token) (a b : Outcome) → Evaluates tokens a → Evaluates tokens b → a ≡ b
+pub one_outcome : (tokens : List Token) (a b : Evaluated) → Evaluates tokens a → Evaluates tokens b → a ≡ b
 one_outcome tokens a b one other =
     let words = same_words tokens one.0 other.0 one.2 other.2 in
-    let tree = one_tree other.0 one.1 other.1 (subst (Spells one.1) words one.3) other.3 in
+    let tree = one_tree other.0 one.1 other.1 (subst (SpellsCondition one.1) words one.3) other.3 in
     sym one.4 ∙ ap (λ (t : Tree). (value_of t).outcome) tree ∙ other.4
 
-not_none : (tokens : List Token) (a : Outcome) → Evaluates tokens a → IsNoExpression tokens → ⊥
+not_none : (tokens : List Token) (a : Evaluated) → Evaluates tokens a → IsNoExpression tokens → ⊥
 not_none tokens a one none = none one.0 one.1 one.2 one.3
 
 pub same_answer : (tokens : List Token) (a b : Result Bool CondFault) → HasValue tokens a → HasValue tokens b → a ≡ b

@@ -8,7 +8,7 @@ use Rattle.ct_ppexpr.specs.declared.words.Mark.{Mark}
 use Rattle.ct_ppexpr.specs.declared.words.Mark.TheVariants as m
 use Rattle.ct_ppexpr.specs.declared.words.Word.{Word}
 use Rattle.ct_ppexpr.specs.declared.words.Word.TheVariants as w
-use Rattle.ct_ppexpr.specs.Trees.{Tree, Constant, Paren, Prefix, Between, Choice, prefix_mark, infix_level, level, spell, IsWellFormed}
+use Rattle.ct_ppexpr.specs.Trees.{Tree, Constant, Paren, Prefix, Between, Choice, prefix_mark, infix_level, tree_level, spell, IsWellFormed}
 use Rattle.ct_ppexpr.specs.Machine.{Frame, InParen, InPrefix, InBetween, InYes, InNo, Stack, Mode, Want, Have, holds, plug, reduced, pull, act, at, step, whole, then_run, run, trees}
 use Rattle.ct_ppexpr.proofs.Levels.{infix_range, level_positive, stack_needs, stack_holds, loose, low}
 
@@ -49,7 +49,7 @@ infix_read o s l rest n =
     let range = infix_range o in
     acts (m.Infix o) s l rest (InBetween o l ∷ s) Want (loose s (infix_level o) n range.0 range.1) refl
 
-pub reads : (t : Tree) (s : Stack Tree) (rest : List Word) → IsWellFormed t → stack_needs s ≤ level t → next_pull rest ≤ level t → run trees (spell t rest) s Want ≡ run trees rest s (Have t)
+pub reads : (t : Tree) (s : Stack Tree) (rest : List Word) → IsWellFormed t → stack_needs s ≤ tree_level t → next_pull rest ≤ tree_level t → run trees (spell t rest) s Want ≡ run trees rest s (Have t)
 reads (Constant v) s rest wf n p = refl
 reads (Paren x) s rest wf n p =
     reads x (InParen ∷ s) (w.Mark m.Close ∷ rest) wf (level_positive x) (level_positive x)

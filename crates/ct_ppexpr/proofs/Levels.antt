@@ -6,7 +6,7 @@ use Rattle.ct_ppexpr.specs.declared.words.Infix.{Infix}
 use Rattle.ct_ppexpr.specs.declared.words.Infix.TheVariants.{Compute, Both, Either}
 use Rattle.ct_ppexpr.specs.declared.words.Mark.{Mark}
 use Rattle.ct_ppexpr.specs.declared.words.Mark.TheVariants as m
-use Rattle.ct_ppexpr.specs.Trees.{Tree, Constant, Paren, Prefix, Between, Choice, binary_level, infix_level, level}
+use Rattle.ct_ppexpr.specs.Trees.{Tree, Constant, Paren, Prefix, Between, Choice, binary_level, infix_level, tree_level}
 use Rattle.ct_ppexpr.specs.Machine.{Frame, InParen, InPrefix, InBetween, InYes, InNo, Stack, pull, holds}
 
 binary_range : (o : BinaryOp) → (4 ≤ binary_level o) × (binary_level o ≤ 11)
@@ -32,7 +32,7 @@ infix_range Either = (omega arith, omega arith)
 infix_range Both = (omega arith, omega arith)
 infix_range (Compute o) = (omega (arith, binary_range o), omega (arith, binary_range o))
 
-pub level_positive : (t : Tree) → 1 ≤ level t
+pub level_positive : (t : Tree) → 1 ≤ tree_level t
 level_positive (Constant v) = omega arith
 level_positive (Paren x) = omega arith
 level_positive (Prefix o x) = omega arith

@@ -7,7 +7,7 @@ use Rattle.ct_ppexpr.specs.declared.words.Mark.{Mark}
 use Rattle.ct_ppexpr.specs.declared.words.Mark.TheVariants as m
 use Rattle.ct_ppexpr.specs.declared.words.Word.{Word}
 use Rattle.ct_ppexpr.specs.declared.words.Word.TheVariants as w
-use Rattle.ct_ppexpr.specs.Trees.{Tree, prefix_mark, infix_level, level, spell, IsWellFormed}
+use Rattle.ct_ppexpr.specs.Trees.{Tree, prefix_mark, infix_level, tree_level, spell, IsWellFormed}
 use Rattle.ct_ppexpr.specs.Machine.{Frame, InParen, InPrefix, InBetween, InYes, InNo, Stack, Mode, Want, Have, Step, holds, plug, reduced, pull, on_close, on_colon, act, after, begin, step, whole, finish, then_run, run, run_all, trees}
 use Rattle.ct_ppexpr.proofs.Levels.{infix_range, pull_range, needs, stack_needs, stack_holds, modest, room, lowest}
 
@@ -39,9 +39,9 @@ gives InParen = 13
 abbrev Fits : Frame Tree → Type 0
 Fits InParen = Unit {0}
 Fits (InPrefix o) = Unit {0}
-Fits (InBetween o l) = (infix_level o ≤ level l) × IsWellFormed l
-Fits (InYes c) = (2 ≤ level c) × IsWellFormed c
-Fits (InNo c y) = (2 ≤ level c) × IsWellFormed c × IsWellFormed y
+Fits (InBetween o l) = (infix_level o ≤ tree_level l) × IsWellFormed l
+Fits (InYes c) = (2 ≤ tree_level c) × IsWellFormed c
+Fits (InNo c y) = (2 ≤ tree_level c) × IsWellFormed c × IsWellFormed y
 
 abbrev IsStack : Stack Tree → Type 0
 IsStack [] = Unit {0}
@@ -49,16 +49,16 @@ IsStack (f ∷ s) = Fits f × (stack_needs s ≤ gives f) × IsStack s
 
 abbrev IsMode : Mode Tree → Type 0
 IsMode Want = Unit {0}
-IsMode (Have x) = IsWellFormed x × (13 ≤ level x)
+IsMode (Have x) = IsWellFormed x × (13 ≤ tree_level x)
 
 -- a frame that is ended
 record Plugged (f : Frame Tree) (x : Tree) : Type 0 where
   well_formed : IsWellFormed (plug trees f x)
-  high : level (plug trees f x) ≡ holds f
+  high : tree_level (plug trees f x) ≡ holds f
   same : gives f ≡ holds f
   spelled : (ws : List Word) → spell (plug trees f x) ws ≡ frame_words f (spell x ws)
 
-plugged : (f : Frame Tree) (x : Tree) → 1 ≤ holds f → Fits f → needs f ≤ level x → IsWellFormed x → Plugged f x
+plugged : (f : Frame Tree) (x : Tree) → 1 ≤ holds f → Fits f → needs f ≤ tree_level x → IsWellFormed x → Plugged f x
 plugged InParen x h fits n wf = absurd (omega arith)
 plugged (InPrefix o) x h fits n wf = record { well_formed = (n, wf); high = refl; same = refl; spelled = λ ws. refl }
 plugged (InBetween o l) x h fits n wf = record { well_formed = (fits.0, n, fits.1, wf); high = refl; same = refl; spelled = λ ws. refl }
@@ -68,12 +68,12 @@ plugged (InNo c y) x h fits n wf = record { well_formed = (fits.0, fits.1, fits.
 record Reduced (p : ℕ) (s : Stack Tree) (x : Tree) (r : Stack Tree × Tree) : Type 0 where
   stack : IsStack r.0
   well_formed : IsWellFormed r.1
-  fits : stack_needs r.0 ≤ level r.1
+  fits : stack_needs r.0 ≤ tree_level r.1
   loose : stack_holds r.0 < p
-  high : p ≤ level r.1
+  high : p ≤ tree_level r.1
   spelled : (ws : List Word) → unwind r.0 (spell r.1 ws) ≡ unwind s (spell x ws)
 
-reduces : (p : ℕ) (s : Stack Tree) (x : Tree) → 1 ≤ p → IsStack s → IsWellFormed x → stack_needs s ≤ level x → p ≤ level x → Reduced p s x (reduced trees p s x)
+reduces : (p : ℕ) (s : Stack Tree) (x : Tree) → 1 ≤ p → IsStack s → IsWellFormed x → stack_needs s ≤ tree_level x → p ≤ tree_level x → Reduced p s x (reduced trees p s x)
 reduces p [] x one st wf fits high = record { stack = st; well_formed = wf; fits = fits; loose = one; high = high; spelled = λ ws. refl }
 reduces p (f ∷ s) x one st wf fits high =
     cond_both (ltb (holds f) p) (f ∷ s, x) (reduced trees p s (plug trees f x)) (Reduced p (f ∷ s) x)
@@ -99,7 +99,7 @@ colon_goes [] x wf st = tt
 colon_goes (InYes c ∷ s) x wf st = (((st.0.0, st.0.1, wf), st.1, st.2), tt, λ ws. refl)
 colon_goes (_ ∷ s) x wf st = tt
 
-act_goes : (k : Mark) (s : Stack Tree) (x : Tree) → IsWellFormed x → IsStack s → stack_holds s < pull k → pull k ≤ level x → Goes (λ ws. unwind s (spell x (w.Mark k ∷ ws))) (act trees k s x)
+act_goes : (k : Mark) (s : Stack Tree) (x : Tree) → IsWellFormed x → IsStack s → stack_holds s < pull k → pull k ≤ tree_level x → Goes (λ ws. unwind s (spell x (w.Mark k ∷ ws))) (act trees k s x)
 act_goes (m.Infix o) s x wf st lt le = (((le, wf), room s (infix_level o) lt (infix_range o).0 (infix_range o).1, st), tt, λ ws. refl)
 act_goes m.Question s x wf st lt le = (((le, wf), lowest s lt, st), tt, λ ws. refl)
 act_goes m.Close s x wf st lt le = close_goes s x wf st

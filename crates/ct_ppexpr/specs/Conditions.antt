@@ -6,21 +6,21 @@ use Rattle.ct_ppexpr.specs.declared.CondFault.{CondFault}
 use Rattle.ct_ppexpr.specs.declared.CondFault.TheVariants.{Grammar, DivideByZero, Overflow, Shift}
 use Rattle.ct_ppexpr.specs.declared.values.Fault.TheVariants as fault
 use Rattle.ct_ppexpr.specs.declared.words.Word.{Word}
-use Rattle.ct_ppexpr.specs.Values.{Outcome}
-use Rattle.ct_ppexpr.specs.Trees.{Tree, Spells, value_of}
+use Rattle.ct_ppexpr.specs.Values.{Evaluated}
+use Rattle.ct_ppexpr.specs.Trees.{Tree, SpellsCondition, value_of}
 use Rattle.ct_ppexpr.specs.Words.{AreWords}
 
 -- the tokens are an expression with this outcome
-abbrev pub Evaluates : List Token → Outcome → Type 0
+abbrev pub Evaluates : List Token → Evaluated → Type 0
 Evaluates tokens outcome =
-    (words : List Word) × (tree : Tree) × AreWords tokens words × Spells tree words × ((value_of tree).outcome ≡ outcome)
+    (words : List Word) × (tree : Tree) × AreWords tokens words × SpellsCondition tree words × ((value_of tree).outcome ≡ outcome)
 
 -- the tokens are no expression
 abbrev pub IsNoExpression : List Token → Type 0
-IsNoExpression tokens = (words : List Word) (tree : Tree) → AreWords tokens words → Spells tree words → ⊥
+IsNoExpression tokens = (words : List Word) (tree : Tree) → AreWords tokens words → SpellsCondition tree words → ⊥
 
 -- a condition holds where its number is not 0
-abbrev pub answer_of : Outcome → Result Bool CondFault
+abbrev pub answer_of : Evaluated → Result Bool CondFault
 answer_of (Ok number) = Ok (not (is_zero number))
 answer_of (Err fault.DivideByZero) = Err DivideByZero
 answer_of (Err fault.Overflow) = Err Overflow
@@ -30,5 +30,5 @@ answer_of (Err fault.Shift) = Err Shift
 -- parts that are evaluated counts; or that they are no expression.
 abbrev pub HasValue : List Token → Result Bool CondFault → Type 0
 HasValue tokens answer =
-    ((outcome : Outcome) × Evaluates tokens outcome × (answer ≡ answer_of outcome))
+    ((outcome : Evaluated) × Evaluates tokens outcome × (answer ≡ answer_of outcome))
     ⊎ (IsNoExpression tokens × (answer ≡ Err Grammar))

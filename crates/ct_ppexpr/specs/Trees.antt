@@ -45,12 +45,12 @@ infix_level Both = 3
 infix_level (Compute op) = binary_level op
 
 -- the production that an expression is of: a conditional expression, an operator, a unary or a primary expression
-abbrev pub level : Tree → ℕ
-level (Choice test one other) = 1
-level (Between op left right) = infix_level op
-level (Prefix op operand) = 12
-level (Paren inner) = 13
-level (Constant value) = 13
+abbrev pub tree_level : Tree → ℕ
+tree_level (Choice test one other) = 1
+tree_level (Between op left right) = infix_level op
+tree_level (Prefix op operand) = 12
+tree_level (Paren inner) = 13
+tree_level (Constant value) = 13
 
 abbrev pub prefix_mark : UnaryOp → Mark
 prefix_mark prefix.Plus = m.Infix (Compute op.Add)
@@ -70,13 +70,13 @@ spell (Choice test one other) rest = spell test (w.Mark m.Question ∷ spell one
 abbrev pub IsWellFormed : Tree → Type 0
 IsWellFormed (Constant value) = Unit {0}
 IsWellFormed (Paren inner) = IsWellFormed inner
-IsWellFormed (Prefix op operand) = (12 ≤ level operand) × IsWellFormed operand
+IsWellFormed (Prefix op operand) = (12 ≤ tree_level operand) × IsWellFormed operand
 IsWellFormed (Between op left right) =
-    (infix_level op ≤ level left) × (infix_level op + 1 ≤ level right) × IsWellFormed left × IsWellFormed right
-IsWellFormed (Choice test one other) = (2 ≤ level test) × IsWellFormed test × IsWellFormed one × IsWellFormed other
+    (infix_level op ≤ tree_level left) × (infix_level op + 1 ≤ tree_level right) × IsWellFormed left × IsWellFormed right
+IsWellFormed (Choice test one other) = (2 ≤ tree_level test) × IsWellFormed test × IsWellFormed one × IsWellFormed other
 
 -- The expression spells the words, all of them.
-pub record Spells (tree : Tree) (words : List Word) : Type 0 where
+pub record SpellsCondition (tree : Tree) (words : List Word) : Type 0 where
   pub well_formed : IsWellFormed tree
   pub spelled : spell tree [] ≡ words
 

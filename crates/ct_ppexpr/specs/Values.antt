@@ -19,10 +19,10 @@ use Rattle.ct_ppexpr.specs.declared.values.Value.{Value}
 use Rattle.ct_ppexpr.specs.declared.words.Infix.{Infix}
 use Rattle.ct_ppexpr.specs.declared.words.Infix.TheVariants.{Compute, Both, Either}
 
-abbrev pub Outcome : Type 0
-Outcome = Result ℤ Fault
+abbrev pub Evaluated : Type 0
+Evaluated = Result ℤ Fault
 
-abbrev pub value : Bool → Outcome → Value
+abbrev pub value : Bool → Evaluated → Value
 value unsigned outcome = record { unsigned = unsigned; outcome = outcome }
 
 abbrev pub kind_of : Bool → IntKind
@@ -30,7 +30,7 @@ kind_of true = UnsignedLongLong
 kind_of false = LongLong
 
 -- a number goes on; a fault stays
-abbrev pub then_do : Outcome → (ℤ → Outcome) → Outcome
+abbrev pub then_do : Evaluated → (ℤ → Evaluated) → Evaluated
 then_do (Ok number) next = next number
 then_do (Err fault) next = Err fault
 
@@ -40,7 +40,7 @@ fault_of fault.DivideByZero = DivideByZero
 fault_of fault.ShiftRange = Shift
 fault_of _ = Overflow
 
-abbrev pub outcome_of : Result ℤ FaultKind → Outcome
+abbrev pub outcome_of : Result ℤ FaultKind → Evaluated
 outcome_of (Ok number) = Ok number
 outcome_of (Err fault) = Err (fault_of fault)
 
@@ -60,7 +60,7 @@ kind_for op left right =
     if is_shift op then kind_of left else common_kind (kind_of left) (kind_of right)
 
 -- the outcome of an operator in a type, where the operands have outcomes; the count of a shift is not converted
-abbrev pub binary_outcome : BinaryOp → IntKind → Outcome → Outcome → Outcome
+abbrev pub binary_outcome : BinaryOp → IntKind → Evaluated → Evaluated → Evaluated
 binary_outcome op kind left right =
     then_do left (λ a. then_do right (λ b. outcome_of (binary_result op kind (converted a kind) (if is_shift op then b else converted b kind))))
 
@@ -73,25 +73,25 @@ abbrev pub is_not : UnaryOp → Bool
 is_not prefix.Not = true
 is_not _ = false
 
-abbrev pub unary_outcome : UnaryOp → IntKind → Outcome → Outcome
+abbrev pub unary_outcome : UnaryOp → IntKind → Evaluated → Evaluated
 unary_outcome op kind operand = then_do operand (λ a. outcome_of (unary_result op kind (converted a kind)))
 
 abbrev pub unary_value : UnaryOp → Value → Value
 unary_value op operand =
     value (operand.unsigned && not (is_not op)) (unary_outcome op (kind_of operand.unsigned) operand.outcome)
 
-abbrev pub truth_outcome : Outcome → Outcome
+abbrev pub truth_outcome : Evaluated → Evaluated
 truth_outcome operand = then_do operand (λ a. Ok (converted a Boolean))
 
-abbrev pub converted_outcome : IntKind → Outcome → Outcome
+abbrev pub converted_outcome : IntKind → Evaluated → Evaluated
 converted_outcome kind operand = then_do operand (λ a. Ok (converted a kind))
 
 -- `&&` and `||` evaluate the right operand only where the left one leaves the result open (6.5.13p4, 6.5.14p4)
-abbrev pub both_outcome : Outcome → Outcome → Outcome
+abbrev pub both_outcome : Evaluated → Evaluated → Evaluated
 both_outcome left right =
     then_do left (λ a. if is_zero a then Ok (pos 0) else truth_outcome right)
 
-abbrev pub either_outcome : Outcome → Outcome → Outcome
+abbrev pub either_outcome : Evaluated → Evaluated → Evaluated
 either_outcome left right =
     then_do left (λ a. if is_zero a then truth_outcome right else Ok (pos 1))
 
@@ -101,7 +101,7 @@ infix_value Both left right = value false (both_outcome left.outcome right.outco
 infix_value Either left right = value false (either_outcome left.outcome right.outcome)
 
 -- one of the two is evaluated, and converted to their common type (6.5.15p4, 6.5.15p5)
-abbrev pub choice_outcome : IntKind → Outcome → Outcome → Outcome → Outcome
+abbrev pub choice_outcome : IntKind → Evaluated → Evaluated → Evaluated → Evaluated
 choice_outcome kind test one other =
     then_do test (λ a. converted_outcome kind (if is_zero a then other else one))
 

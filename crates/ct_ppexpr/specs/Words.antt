@@ -17,46 +17,46 @@ abbrev pub computing : BinaryOp → Word
 computing op = w.Mark (m.Infix (Compute op))
 
 abbrev pub single_mark : ℕ → Word
-single_mark a =
-    if a == 40 then w.Mark m.Open
-    else (if a == 41 then w.Mark m.Close
-    else (if a == 63 then w.Mark m.Question
-    else (if a == 58 then w.Mark m.Colon
-    else (if a == 126 then w.Mark m.Tilde
-    else (if a == 33 then w.Mark m.Bang
-    else (if a == 42 then computing op.Multiply
-    else (if a == 47 then computing op.Divide
-    else (if a == 37 then computing op.Remainder
-    else (if a == 43 then computing op.Add
-    else (if a == 45 then computing op.Subtract
-    else (if a == 60 then computing op.Less
-    else (if a == 62 then computing op.Greater
-    else (if a == 38 then computing op.And
-    else (if a == 94 then computing op.Xor
-    else (if a == 124 then computing op.Or else w.Stray)))))))))))))))
+single_mark byte =
+    if byte == 40 then w.Mark m.Open
+    else (if byte == 41 then w.Mark m.Close
+    else (if byte == 63 then w.Mark m.Question
+    else (if byte == 58 then w.Mark m.Colon
+    else (if byte == 126 then w.Mark m.Tilde
+    else (if byte == 33 then w.Mark m.Bang
+    else (if byte == 42 then computing op.Multiply
+    else (if byte == 47 then computing op.Divide
+    else (if byte == 37 then computing op.Remainder
+    else (if byte == 43 then computing op.Add
+    else (if byte == 45 then computing op.Subtract
+    else (if byte == 60 then computing op.Less
+    else (if byte == 62 then computing op.Greater
+    else (if byte == 38 then computing op.And
+    else (if byte == 94 then computing op.Xor
+    else (if byte == 124 then computing op.Or else w.Stray)))))))))))))))
 
 -- the same byte twice
 abbrev pub double_mark : ℕ → Word
-double_mark a =
-    if a == 60 then computing op.ShiftLeft
-    else (if a == 62 then computing op.ShiftRight
-    else (if a == 61 then computing op.Equal
-    else (if a == 38 then w.Mark (m.Infix Both)
-    else (if a == 124 then w.Mark (m.Infix Either) else w.Stray))))
+double_mark byte =
+    if byte == 60 then computing op.ShiftLeft
+    else (if byte == 62 then computing op.ShiftRight
+    else (if byte == 61 then computing op.Equal
+    else (if byte == 38 then w.Mark (m.Infix Both)
+    else (if byte == 124 then w.Mark (m.Infix Either) else w.Stray))))
 
 -- a byte before `=`
 abbrev pub mark_before_equal : ℕ → Word
-mark_before_equal a =
-    if a == 60 then computing op.LessEqual
-    else (if a == 62 then computing op.GreaterEqual
-    else (if a == 33 then computing op.NotEqual else w.Stray))
+mark_before_equal byte =
+    if byte == 60 then computing op.LessEqual
+    else (if byte == 62 then computing op.GreaterEqual
+    else (if byte == 33 then computing op.NotEqual else w.Stray))
 
 -- the mark that a punctuator is
 abbrev pub mark_of : List ℕ → Word
 mark_of [] = w.Stray
-mark_of (a ∷ []) = single_mark a
-mark_of (a ∷ b ∷ []) = if a == b then double_mark a else (if b == 61 then mark_before_equal a else w.Stray)
-mark_of (a ∷ b ∷ c ∷ bytes) = w.Stray
+mark_of (first ∷ []) = single_mark first
+mark_of (first ∷ second ∷ []) = if first == second then double_mark first else (if second == 61 then mark_before_equal first else w.Stray)
+mark_of (first ∷ second ∷ third ∷ bytes) = w.Stray
 
 abbrev pub number_word : Option Literal → Word
 number_word (Some literal) = w.Constant (literal_value literal)

@@ -13,7 +13,7 @@ ghost use Rattle.ct_ppexpr.specs.Conditions.{answer_of, HasValue};
 ghost use Rattle.ct_ppexpr.specs.declared.CondFault.{CondFault as fault};
 
 use crate::machine::evaluate;
-use crate::values::{Fault, Outcome};
+use crate::values::{Evaluated, Fault};
 use crate::words::read_words;
 use ct_base::{Fail, Out, Token};
 use std::alloc::Global;
@@ -53,7 +53,7 @@ pub fn condition(alloc: Global, tokens: &[Token]) -> Out<bool, CondFault>
 }
 
 /// A condition holds where its number is not 0.
-fn answer_to(outcome: Outcome) -> Result<bool, CondFault>
+fn answer_to(outcome: Evaluated) -> Result<bool, CondFault>
     ensures { result ≡ answer_of outcome }
 {
     match outcome {

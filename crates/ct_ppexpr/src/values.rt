@@ -20,14 +20,14 @@ pub(crate) enum Fault {
 }
 
 /// The number of an expression, or the first fault of its parts that are evaluated.
-pub(crate) type Outcome = Result<i128, Fault>;
+pub(crate) type Evaluated = Result<i128, Fault>;
 
 /// The value of an expression: whether its type is that of the greatest unsigned integers or of the
 /// greatest signed ones, and what became of its number.
 #[derive(Clone, Copy, Debug, PartialEq, Eq)]
 pub(crate) struct Value {
     pub unsigned: bool,
-    pub outcome: Outcome,
+    pub outcome: Evaluated,
 }
 
 /// A value of the signed type.
@@ -50,7 +50,7 @@ fn kind_of(unsigned: bool) -> IntKind
     }
 }
 
-fn outcome_of(result_of: Result<i128, FaultKind>) -> Outcome
+fn outcome_of(result_of: Result<i128, FaultKind>) -> Evaluated
     ensures { result ≡ spec.outcome_of result_of }
 {
     match result_of {
@@ -104,7 +104,7 @@ fn right_operand(op: BinaryOp, kind: IntKind, number: i128) -> i128
     }
 }
 
-fn binary_outcome(op: BinaryOp, kind: IntKind, left: Outcome, right: Outcome) -> Outcome
+fn binary_outcome(op: BinaryOp, kind: IntKind, left: Evaluated, right: Evaluated) -> Evaluated
     ensures { result ≡ spec.binary_outcome op kind left right }
 {
     let Ok(a) = left else { return left };
@@ -128,7 +128,7 @@ fn is_not(op: UnaryOp) -> bool
     matches!(op, UnaryOp::Not)
 }
 
-fn unary_outcome(op: UnaryOp, kind: IntKind, operand: Outcome) -> Outcome
+fn unary_outcome(op: UnaryOp, kind: IntKind, operand: Evaluated) -> Evaluated
     ensures { result ≡ spec.unary_outcome op kind operand }
 {
     let Ok(a) = operand else { return operand };
@@ -145,7 +145,7 @@ pub(crate) fn unary_value(op: UnaryOp, operand: Value) -> Value
 }
 
 /// 1 for every number but 0.
-fn truth(operand: Outcome) -> Outcome
+fn truth(operand: Evaluated) -> Evaluated
     ensures { result ≡ spec.truth_outcome operand }
 {
     let Ok(number) = operand else { return operand };
@@ -153,7 +153,7 @@ fn truth(operand: Outcome) -> Outcome
 }
 
 /// `&&`: the right operand is evaluated only where the left one is not 0.
-fn both(left: Outcome, right: Outcome) -> Outcome
+fn both(left: Evaluated, right: Evaluated) -> Evaluated
     ensures { result ≡ spec.both_outcome left right }
 {
     match left {
@@ -164,7 +164,7 @@ fn both(left: Outcome, right: Outcome) -> Outcome
 }
 
 /// `||`: the right operand is evaluated only where the left one is 0.
-fn either(left: Outcome, right: Outcome) -> Outcome
+fn either(left: Evaluated, right: Evaluated) -> Evaluated
     ensures { result ≡ spec.either_outcome left right }
 {
     match left {
@@ -190,7 +190,7 @@ pub(crate) fn infix_value(op: Infix, left: Value, right: Value) -> Value
     }
 }
 
-fn converted(kind: IntKind, operand: Outcome) -> Outcome
+fn converted(kind: IntKind, operand: Evaluated) -> Evaluated
     ensures { result ≡ spec.converted_outcome kind operand }
 {
     let Ok(number) = operand else { return operand };
@@ -198,7 +198,7 @@ fn converted(kind: IntKind, operand: Outcome) -> Outcome
 }
 
 /// One of the two, in their common type.
-fn choice(kind: IntKind, test: Outcome, first: Outcome, second: Outcome) -> Outcome
+fn choice(kind: IntKind, test: Evaluated, first: Evaluated, second: Evaluated) -> Evaluated
     ensures { result ≡ spec.choice_outcome kind test first second }
 {
     match test {

@@ -13,7 +13,7 @@ use Rattle.ct_preproc.specs.declared.state.State.{State}
 use Rattle.ct_preproc.specs.declared.state.Place.{Place}
 use Rattle.ct_preproc.specs.declared.state.Conditional.{Conditional}
 use Rattle.ct_preproc.specs.declared.reading.Reading.{Reading}
-use Rattle.ct_preproc.specs.Reading.{Ends, Goes, Reads, fault_at}
+use Rattle.ct_preproc.specs.Reading.{Ends, Goes, DoesThen, fault_at}
 use Rattle.ct_preproc.specs.Files.{ReadsGroup, begins, closes}
 use Rattle.ct_preproc.specs.Steps.{Closes, StepsLine, StepsLines, begun, closed, step_to}
 use Rattle.ct_preproc.proofs.EmptyText.{ends_nothing, reads_no_text}
@@ -81,7 +81,7 @@ module _ (limit : ℕ) (Enters : Place → ℕ → Header → State → Result S
 
   -- the text that stands before is expanded, and then this is the refusal
   abbrev Fails : PreFault → Reading → Result State PreFault → Type 0
-  Fails fault reading answer = Reads (Ends place limit reading.state reading.text) answer (λ after. answer ≡ Err fault)
+  Fails fault reading answer = DoesThen (Ends place limit reading.state reading.text) answer (λ after. answer ≡ Err fault)
 
   -- the end of a file expands the text before it
   closes_flushes : Flushes limit Enters place (Closes place limit) []
@@ -154,7 +154,7 @@ module _ (limit : ℕ) (Enters : Place → ℕ → Header → State → Result S
 
   by_whole : (state : State) (lines : List (List Token)) (group : Group) (answer : Result State PreFault) → IsGroup lines group []
       → StepsTo limit Enters place (Closes place limit) (begun place state) lines answer
-      → Reads (ReadsGroup limit Enters place (begins place state) [] group) answer (λ after. answer ≡ closes place None after)
+      → DoesThen (ReadsGroup limit Enters place (begins place state) [] group) answer (λ after. answer ≡ closes place None after)
   by_whole state lines group answer is steps =
       let reads = group_steps limit Enters place (Closes place limit) is closes_flushes (begins place state) [] [] answer refl steps in (
         reads.0,
@@ -168,7 +168,7 @@ module _ (limit : ℕ) (Enters : Place → ℕ → Header → State → Result S
       → IsGroup (before ++ ends count) group [] → run [] before ≡ Some shapes → length shapes ≡ count
       → ((next : Reading) → shapes_of next.opens ≡ shapes → Then next answer → Fails (fault_at place number pre.Unbalanced) next answer)
       → StepsTo limit Enters place Then (begun place state) before answer
-      → Reads (ReadsGroup limit Enters place (begins place state) [] group) answer (λ after. answer ≡ closes place (Some number) after)
+      → DoesThen (ReadsGroup limit Enters place (begins place state) [] group) answer (λ after. answer ≡ closes place (Some number) after)
   by_ends state before group number count shapes Then answer is runs counted fails steps =
       let fault : PreFault = fault_at place number pre.Unbalanced in
       let left = lines_leave Then (λ next found. StepsTo limit Enters place (Fails fault) next (ends count) found) shapes before (begun place state) answer runs
@@ -185,7 +185,7 @@ module _ (limit : ℕ) (Enters : Place → ℕ → Header → State → Result S
   -- A file that is read line by line is read by its outline.
   pub by_outline : (state : State) (lines : List (List Token)) (group : Group) (broken : Option ℕ) (answer : Result State PreFault) → IsOutline lines group broken
       → StepsLines limit Enters place (begun place state) lines answer
-      → Reads (ReadsGroup limit Enters place (begins place state) [] group) answer (λ after. answer ≡ closes place broken after)
+      → DoesThen (ReadsGroup limit Enters place (begins place state) [] group) answer (λ after. answer ≡ closes place broken after)
   by_outline state lines group broken answer (whole is) steps =
       by_whole state lines group answer is (lines_then_close (begun place state) lines answer steps)
   by_outline state lines group broken answer (breaks before after line {found = found} count directive never is) steps =

@@ -6,7 +6,7 @@ use Rattle.ct_base.specs.Answers.{IfFault, OnAnswer}
 use Rattle.ct_base.specs.declared.memory.Fail.{Fail}
 use Rattle.ct_base.specs.declared.memory.Fail.TheVariants.{Fault, OutOfMemory}
 use Rattle.ct_directive.specs.declared.faults.PreFault.{PreFault}
-use Rattle.ct_preproc.specs.Reading.{Reads}
+use Rattle.ct_preproc.specs.Reading.{DoesThen}
 
 pub on_true : {A F : Type 0} (b : Bool) (r : Result A (Fail F)) (P Q : Result A F → Type 0) → b ≡ true → OnAnswer r P → OnAnswer r (λ x. MatchBool b (P x) (Q x))
 on_true b r P Q e h = subst (λ (b : Bool). OnAnswer r (λ x. MatchBool b (P x) (Q x))) (sym e) h
@@ -39,7 +39,7 @@ on_same r P x y e h = subst (λ v. OnAnswer r (P v)) e h
 
 -- behind a value that is read stands what its next step answers
 pub on_next : {A B : Type 0} (Does : Result A PreFault → Type 0) (value : A) (r : Result B (Fail PreFault)) (Next : A → Result B PreFault → Type 0)
-    → Does (Ok value) → OnAnswer r (Next value) → OnAnswer r (λ answer. Reads Does answer (λ found. Next found answer))
+    → Does (Ok value) → OnAnswer r (Next value) → OnAnswer r (λ answer. DoesThen Does answer (λ found. Next found answer))
 on_next Does value (Ok x) Next does next = (Ok value, does, next)
 on_next Does value (Err (Fault x)) Next does next = (Ok value, does, next)
 on_next Does value (Err OutOfMemory) Next does next = next

@@ -5,23 +5,23 @@ use Rattle.ct_base.specs.declared.lexical.Token.{Token}
 use Rattle.ct_macro_call.specs.declared.definition.Macro.{Macro}
 use Rattle.ct_macro_call.specs.declared.marked.Marked.{Marked}
 use Rattle.ct_macro.specs.declared.faults.MacroFault.{MacroFault}
-use Rattle.ct_macro.specs.Expansion.{Outcome, done, stopped, Expands as ExpandsMarked, nothing as no_tokens, IsExpansion, IsRefusal}
+use Rattle.ct_macro.specs.Expansion.{ExpansionOutcome, done, stopped, Expands as ExpandsMarked, nothing as no_tokens, IsExpansion, IsRefusal}
 use Rattle.ct_directive.specs.declared.faults.PreFault.{PreFault}
 use Rattle.ct_preproc.specs.declared.state.State.{State}
 use Rattle.ct_preproc.specs.declared.state.Place.{Place}
-use Rattle.ct_preproc.specs.Reading.{Reads, Goes, Expands, Ends}
+use Rattle.ct_preproc.specs.Reading.{DoesThen, Goes, Expands, Ends}
 
 -- ---- expansion
 
 -- no tokens become no tokens, and nothing is put
-one_outcome : (macros : List Macro) (room counted : ℕ) (outcome : Outcome (List Marked)) → ExpandsMarked macros room counted [] outcome → outcome ≡ done [] counted
+one_outcome : (macros : List Macro) (room counted : ℕ) (outcome : ExpansionOutcome (List Marked)) → ExpandsMarked macros room counted [] outcome → outcome ≡ done [] counted
 one_outcome macros room counted outcome no_tokens = refl
 
-tokens_in : Outcome (List Marked) → List Marked
+tokens_in : ExpansionOutcome (List Marked) → List Marked
 tokens_in (done tokens counted) = tokens
 tokens_in (stopped fault) = []
 
-count_in : Outcome (List Marked) → ℕ
+count_in : ExpansionOutcome (List Marked) → ℕ
 count_in (done tokens counted) = counted
 count_in (stopped fault) = 0
 
@@ -33,7 +33,7 @@ none_expanded macros room counted expanded h =
     (h.2 ∙ ap (λ (marked : List Marked). map (λ (m : Marked). m.token) marked) (ap tokens_in same), ap count_in same)
 
 -- a refusal is no list
-not_done : (fault : MacroFault) → ◌≡◌ {A = Outcome (List Marked)} (stopped fault) (done [] 0) → ⊥
+not_done : (fault : MacroFault) → ◌≡◌ {A = ExpansionOutcome (List Marked)} (stopped fault) (done [] 0) → ⊥
 not_done fault same = cc
 
 -- no tokens are refused nowhere
@@ -70,5 +70,5 @@ module _ (place : Place) (limit : ℕ) (state : State) where
       (Ok ([], state), (0, ([], no_tokens, refl), count), ap (λ (ts : List Token). Ok (record state { tokens = ts })) (sym (append-nil state.tokens)))
 
   -- what follows no text stands at its begin
-  pub reads_no_text : {B : Type 0} (answer : Result B PreFault) (Next : State → Type 0) → Reads (Ends place limit state []) answer Next → Next state
+  pub reads_no_text : {B : Type 0} (answer : Result B PreFault) (Next : State → Type 0) → DoesThen (Ends place limit state []) answer Next → Next state
   reads_no_text answer Next h = subst (λ (found : Result State PreFault). Goes found answer Next) (nothing_ends h.0 h.1) h.2

@@ -12,7 +12,7 @@ use Rattle.ct_preproc.specs.declared.state.Conditional.{Conditional}
 use Rattle.ct_preproc.specs.declared.reading.Reading.{Reading}
 use Rattle.ct_preproc.specs.Directives.{Condition, FirstCondition}
 use Rattle.ct_preproc.specs.Files.{ActsFully, ReadsGroup, ReadsOthers, with_count}
-use Rattle.ct_preproc.specs.Reading.{Reads, counts, Ends}
+use Rattle.ct_preproc.specs.Reading.{DoesThen, counts, Ends}
 use Rattle.ct_preproc.specs.Steps.{is_active, opened, otherwise, regrouped}
 use Rattle.ct_preproc.proofs.Continuing.{reads_map, reads_outward}
 use Rattle.ct_preproc.proofs.KindAnswers.{text_read, control_read, if_read, elif_read, else_read, endif_read}
@@ -44,7 +44,7 @@ module _ (limit : ℕ) (Enters : Place → ℕ → Header → State → Result S
   abbrev pub Flushes : List (List Token) → Type 0
   Flushes rest = (state : State) (opens : List Conditional) (text : List Token) (answer : Result State PreFault)
       → StepsTo limit Enters place Then (known state opens text) rest answer
-      → Reads (Ends place limit state text) answer (λ after. StepsTo limit Enters place Then (known after opens []) rest answer)
+      → DoesThen (Ends place limit state text) answer (λ after. StepsTo limit Enters place Then (known after opens []) rest answer)
 
   -- lines that begin with a directive
   flushes_line : (line : List Token) (kind : Line) (lines : List (List Token)) → IsDirective kind → line_of line ≡ kind → Flushes (line ∷ lines)
@@ -65,39 +65,39 @@ module _ (limit : ℕ) (Enters : Place → ℕ → Header → State → Result S
   text_group : (line : List Token) (lines : List (List Token)) (behind : Group) (state : State) (opens : List Conditional) (text : List Token) (answer : Result State PreFault)
       (Behind : State → Type 0) → is_active opens ≡ true → line_of line ≡ TextLine
       → ((counted : ℕ) → StepsTo limit Enters place Then (known (with_count state counted) opens (text ++ line)) lines answer
-      → Reads (ReadsGroup limit Enters place (with_count state counted) (text ++ line) behind) answer Behind)
+      → DoesThen (ReadsGroup limit Enters place (with_count state counted) (text ++ line) behind) answer Behind)
       → StepsTo limit Enters place Then (known state opens text) (line ∷ lines) answer
-      → Reads (ReadsGroup limit Enters place state text (Text line behind)) answer Behind
+      → DoesThen (ReadsGroup limit Enters place state text (Text line behind)) answer Behind
   text_group line lines behind state opens text answer Behind active kind each h =
       reads_outward (λ (found : Result ℕ PreFault). found ≡ counts place limit state.counted line)
       (λ counted. ReadsGroup limit Enters place (with_count state counted) (text ++ line) behind) answer Behind
       (reads_map (λ (found : Result ℕ PreFault). found ≡ counts place limit state.counted line) answer
       (λ counted. StepsTo limit Enters place Then (known (with_count state counted) opens (text ++ line)) lines answer)
-      (λ counted. Reads (ReadsGroup limit Enters place (with_count state counted) (text ++ line) behind) answer Behind) each
+      (λ counted. DoesThen (ReadsGroup limit Enters place (with_count state counted) (text ++ line) behind) answer Behind) each
       (text_read limit Enters place line state opens text answer (λ next. StepsTo limit Enters place Then next lines answer) active kind h))
 
   -- a control line, and then the parts behind it
   control_group : (line : List Token) (lines : List (List Token)) (number : ℕ) (tokens : List Token) (behind : Group) (state : State) (opens : List Conditional) (text : List Token) (answer : Result State PreFault)
       (Behind : State → Type 0) → is_active opens ≡ true → line_of line ≡ ControlLine number tokens
-      → ((after : State) → StepsTo limit Enters place Then (known after opens []) lines answer → Reads (ReadsGroup limit Enters place after [] behind) answer Behind)
+      → ((after : State) → StepsTo limit Enters place Then (known after opens []) lines answer → DoesThen (ReadsGroup limit Enters place after [] behind) answer Behind)
       → StepsTo limit Enters place Then (known state opens text) (line ∷ lines) answer
-      → Reads (ReadsGroup limit Enters place state text (Control number tokens behind)) answer Behind
+      → DoesThen (ReadsGroup limit Enters place state text (Control number tokens behind)) answer Behind
   control_group line lines number tokens behind state opens text answer Behind active kind each h =
       reads_outward (Ends place limit state text)
-      (λ ended found. Reads (ActsFully limit Enters place number tokens ended) found (λ after. ReadsGroup limit Enters place after [] behind found)) answer Behind
+      (λ ended found. DoesThen (ActsFully limit Enters place number tokens ended) found (λ after. ReadsGroup limit Enters place after [] behind found)) answer Behind
       (reads_map (Ends place limit state text) answer
-      (λ ended. Reads (ActsFully limit Enters place number tokens ended) answer (λ after. StepsTo limit Enters place Then (known after opens []) lines answer))
-      (λ ended. Reads (λ (found : Result State PreFault). Reads (ActsFully limit Enters place number tokens ended) found (λ after. ReadsGroup limit Enters place after [] behind found)) answer Behind)
+      (λ ended. DoesThen (ActsFully limit Enters place number tokens ended) answer (λ after. StepsTo limit Enters place Then (known after opens []) lines answer))
+      (λ ended. DoesThen (λ (found : Result State PreFault). DoesThen (ActsFully limit Enters place number tokens ended) found (λ after. ReadsGroup limit Enters place after [] behind found)) answer Behind)
       (λ ended acts.
       reads_outward (ActsFully limit Enters place number tokens ended) (λ after. ReadsGroup limit Enters place after [] behind) answer Behind
       (reads_map (ActsFully limit Enters place number tokens ended) answer (λ after. StepsTo limit Enters place Then (known after opens []) lines answer)
-      (λ after. Reads (ReadsGroup limit Enters place after [] behind) answer Behind) each acts))
+      (λ after. DoesThen (ReadsGroup limit Enters place after [] behind) answer Behind) each acts))
       (control_read limit Enters place line state opens text answer (λ next. StepsTo limit Enters place Then next lines answer) number tokens active kind h))
 
   -- a choice between two groups is read where each is
   choice_group : (now : Bool) (Does Other : Result State PreFault → Type 0) (answer : Result State PreFault) (Before : Bool → Type 0) (Behind : State → Type 0)
-      → (Before true → Reads Does answer Behind) → (Before false → Reads Other answer Behind) → Before now
-      → Reads (λ (read : Result State PreFault). MatchBool now (Does read) (Other read)) answer Behind
+      → (Before true → DoesThen Does answer Behind) → (Before false → DoesThen Other answer Behind) → Before now
+      → DoesThen (λ (read : Result State PreFault). MatchBool now (Does read) (Other read)) answer Behind
   choice_group true Does Other answer Before Behind does other h = does h
   choice_group false Does Other answer Before Behind does other h = other h
 
@@ -111,29 +111,29 @@ module _ (limit : ℕ) (Enters : Place → ℕ → Header → State → Result S
       (state : State) (opens : List Conditional) (text : List Token) (answer : Result State PreFault) (Closed Behind : State → Type 0)
       → is_active opens ≡ true → line_of line ≡ IfLine number name tokens
       → ((begun : State) → StepsTo limit Enters place Then (known begun (opened number true true ∷ opens) []) lines answer
-      → Reads (ReadsGroup limit Enters place begun [] inner) answer Closed)
+      → DoesThen (ReadsGroup limit Enters place begun [] inner) answer Closed)
       → ((begun : State) → StepsTo limit Enters place Then (known begun (opened number true false ∷ opens) []) lines answer
-      → Reads (ReadsOthers limit Enters place begun others) answer Closed)
-      → ((after : State) → Closed after → Reads (ReadsGroup limit Enters place after [] behind) answer Behind)
+      → DoesThen (ReadsOthers limit Enters place begun others) answer Closed)
+      → ((after : State) → Closed after → DoesThen (ReadsGroup limit Enters place after [] behind) answer Behind)
       → StepsTo limit Enters place Then (known state opens text) (line ∷ lines) answer
-      → Reads (ReadsGroup limit Enters place state text (Section number name tokens inner others behind)) answer Behind
+      → DoesThen (ReadsGroup limit Enters place state text (Section number name tokens inner others behind)) answer Behind
   section_group line lines number name tokens inner others behind state opens text answer Closed Behind active kind first further each h =
       reads_outward (Ends place limit state text)
-      (λ ended found. Reads (FirstCondition place limit number ended name tokens) found
-      (λ f. Reads (read_by inner others f) found (λ after. ReadsGroup limit Enters place after [] behind found))) answer Behind
+      (λ ended found. DoesThen (FirstCondition place limit number ended name tokens) found
+      (λ f. DoesThen (read_by inner others f) found (λ after. ReadsGroup limit Enters place after [] behind found))) answer Behind
       (reads_map (Ends place limit state text) answer
-      (λ ended. Reads (FirstCondition place limit number ended name tokens) answer (λ f. StepsTo limit Enters place Then (known f.1 (opened number true f.0 ∷ opens) []) lines answer))
-      (λ ended. Reads (λ (found : Result State PreFault). Reads (FirstCondition place limit number ended name tokens) found
-      (λ f. Reads (read_by inner others f) found (λ after. ReadsGroup limit Enters place after [] behind found))) answer Behind)
+      (λ ended. DoesThen (FirstCondition place limit number ended name tokens) answer (λ f. StepsTo limit Enters place Then (known f.1 (opened number true f.0 ∷ opens) []) lines answer))
+      (λ ended. DoesThen (λ (found : Result State PreFault). DoesThen (FirstCondition place limit number ended name tokens) found
+      (λ f. DoesThen (read_by inner others f) found (λ after. ReadsGroup limit Enters place after [] behind found))) answer Behind)
       (λ ended judged.
       reads_outward (FirstCondition place limit number ended name tokens)
-      (λ f found. Reads (read_by inner others f) found (λ after. ReadsGroup limit Enters place after [] behind found)) answer Behind
+      (λ f found. DoesThen (read_by inner others f) found (λ after. ReadsGroup limit Enters place after [] behind found)) answer Behind
       (reads_map (FirstCondition place limit number ended name tokens) answer
       (λ f. StepsTo limit Enters place Then (known f.1 (opened number true f.0 ∷ opens) []) lines answer)
-      (λ f. Reads (λ (found : Result State PreFault). Reads (read_by inner others f) found (λ after. ReadsGroup limit Enters place after [] behind found)) answer Behind)
+      (λ f. DoesThen (λ (found : Result State PreFault). DoesThen (read_by inner others f) found (λ after. ReadsGroup limit Enters place after [] behind found)) answer Behind)
       (λ f steps.
       reads_outward (read_by inner others f) (λ after. ReadsGroup limit Enters place after [] behind) answer Behind
-      (reads_map (read_by inner others f) answer Closed (λ after. Reads (ReadsGroup limit Enters place after [] behind) answer Behind) each
+      (reads_map (read_by inner others f) answer Closed (λ after. DoesThen (ReadsGroup limit Enters place after [] behind) answer Behind) each
       (choice_group f.0 (ReadsGroup limit Enters place f.1 [] inner) (ReadsOthers limit Enters place f.1 others) answer
       (λ now. StepsTo limit Enters place Then (known f.1 (opened number true now ∷ opens) []) lines answer) Closed (first f.1) (further f.1) steps)))
       judged))
@@ -144,17 +144,17 @@ module _ (limit : ℕ) (Enters : Place → ℕ → Header → State → Result S
       (state : State) (one : Conditional) (opens : List Conditional) (answer : Result State PreFault) (Behind : State → Type 0)
       → one.outer ≡ true → one.taken ≡ false → one.last ≡ false → line_of line ≡ ElifLine number tokens
       → ((begun : State) → StepsTo limit Enters place Then (known begun (regrouped one true ∷ opens) []) lines answer
-      → Reads (ReadsGroup limit Enters place begun [] inner) answer Behind)
+      → DoesThen (ReadsGroup limit Enters place begun [] inner) answer Behind)
       → ((begun : State) → StepsTo limit Enters place Then (known begun (regrouped one false ∷ opens) []) lines answer
-      → Reads (ReadsOthers limit Enters place begun others) answer Behind)
+      → DoesThen (ReadsOthers limit Enters place begun others) answer Behind)
       → StepsTo limit Enters place Then (known state (one ∷ opens) []) (line ∷ lines) answer
-      → Reads (ReadsOthers limit Enters place state (Elif number tokens inner others)) answer Behind
+      → DoesThen (ReadsOthers limit Enters place state (Elif number tokens inner others)) answer Behind
   elif_others line lines number tokens inner others state one opens answer Behind active untaken more kind first further h =
       reads_outward (Condition place limit number state tokens)
       (λ f found. MatchBool f.0 (ReadsGroup limit Enters place f.1 [] inner found) (ReadsOthers limit Enters place f.1 others found)) answer Behind
       (reads_map (Condition place limit number state tokens) answer
       (λ f. StepsTo limit Enters place Then (known f.1 (regrouped one f.0 ∷ opens) []) lines answer)
-      (λ f. Reads (λ (found : Result State PreFault). MatchBool f.0 (ReadsGroup limit Enters place f.1 [] inner found) (ReadsOthers limit Enters place f.1 others found)) answer Behind)
+      (λ f. DoesThen (λ (found : Result State PreFault). MatchBool f.0 (ReadsGroup limit Enters place f.1 [] inner found) (ReadsOthers limit Enters place f.1 others found)) answer Behind)
       (λ f. choice_group f.0 (ReadsGroup limit Enters place f.1 [] inner) (ReadsOthers limit Enters place f.1 others) answer
       (λ now. StepsTo limit Enters place Then (known f.1 (regrouped one now ∷ opens) []) lines answer) Behind (first f.1) (further f.1))
       (elif_read limit Enters place line state one opens answer (λ next. StepsTo limit Enters place Then next lines answer) number tokens more
@@ -174,7 +174,7 @@ module _ (limit : ℕ) (Enters : Place → ℕ → Header → State → Result S
     pub group_steps : {lines rest : List (List Token)} {group : Group} → IsGroup lines group rest → Flushes rest
         → (state : State) (opens : List Conditional) (text : List Token) (answer : Result State PreFault) → is_active opens ≡ true
         → StepsTo limit Enters place Then (known state opens text) lines answer
-        → Reads (ReadsGroup limit Enters place state text group) answer (λ after. StepsTo limit Enters place Then (known after opens []) rest answer)
+        → DoesThen (ReadsGroup limit Enters place state text group) answer (λ after. StepsTo limit Enters place Then (known after opens []) rest answer)
     group_steps no_part flushes state opens text answer active h = flushes state opens text answer h
     group_steps {rest = rest} (text_part {line = line} {lines = lines} {behind = behind} kind others) flushes state opens text answer active h =
         text_group line lines behind state opens text answer (λ after. StepsTo limit Enters place Then (known after opens []) rest answer) active kind
@@ -206,7 +206,7 @@ module _ (limit : ℕ) (Enters : Place → ℕ → Header → State → Result S
     pub others_steps : {lines rest : List (List Token)} {others : Others} → AreOthers lines others rest → Flushes rest
         → (state : State) (one : Conditional) (opens : List Conditional) (answer : Result State PreFault) → one.outer ≡ true → one.taken ≡ false → one.last ≡ false
         → StepsTo limit Enters place Then (known state (one ∷ opens) []) lines answer
-        → Reads (ReadsOthers limit Enters place state others) answer
+        → DoesThen (ReadsOthers limit Enters place state others) answer
         (λ after. (next : Conditional) × StepsTo limit Enters place Then (known after (next ∷ opens) []) rest answer)
     others_steps no_others flushes state one opens answer active untaken unended h = (Ok state, refl, (one, h))
     others_steps {rest = rest} (elif_part {line = line} {lines = lines} {more = more} {number = number} {tokens = tokens} {inner = inner} {others = others} kind is_inner are_others) flushes state one opens answer active untaken unended h =

@@ -14,7 +14,7 @@ use Rattle.ct_preproc.specs.declared.state.Place.{Place}
 use Rattle.ct_preproc.specs.declared.state.Conditional.{Conditional}
 use Rattle.ct_preproc.specs.declared.directives.Step.{Step}
 use Rattle.ct_preproc.specs.declared.reading.Reading.{Reading}
-use Rattle.ct_preproc.specs.Reading.{Reads, fault_at, Ends}
+use Rattle.ct_preproc.specs.Reading.{DoesThen, fault_at, Ends}
 use Rattle.ct_preproc.specs.Steps.{Controls, Elifs, FollowsTo, Opens, StepsLine, StepsText, StepsThen, is_active, opened, otherwise, step_to}
 use Rattle.ct_preproc.proofs.Continuing.{reads_map, reads_inward, reads_outward}
 use Rattle.ct_preproc.proofs.EmptyText.{ends_nothing}
@@ -75,15 +75,15 @@ module _ (limit : ℕ) (Enters : Place → ℕ → Header → State → Result S
   abbrev pub KindThen : Line → List Conditional → State → Result Reading PreFault → Type 0
   KindThen TextLine opens state answer = Unit {0}
   KindThen (ControlLine number tokens) opens state answer =
-      Reads (ControlSteps number tokens state opens) answer (λ step. FollowsTo limit Enters place number step answer)
+      DoesThen (ControlSteps number tokens state opens) answer (λ step. FollowsTo limit Enters place number step answer)
   KindThen (IfLine number name tokens) opens state answer =
-      Reads (IfSteps number name tokens state opens) answer (λ step. FollowsTo limit Enters place number step answer)
+      DoesThen (IfSteps number name tokens state opens) answer (λ step. FollowsTo limit Enters place number step answer)
   KindThen (ElifLine number tokens) opens state answer =
-      Reads (ElifSteps number tokens state opens) answer (λ step. FollowsTo limit Enters place number step answer)
+      DoesThen (ElifSteps number tokens state opens) answer (λ step. FollowsTo limit Enters place number step answer)
   KindThen (ElseLine number) opens state answer =
-      Reads (ElseSteps number state opens) answer (λ step. FollowsTo limit Enters place number step answer)
+      DoesThen (ElseSteps number state opens) answer (λ step. FollowsTo limit Enters place number step answer)
   KindThen (EndifLine number) opens state answer =
-      Reads (EndifSteps number state opens) answer (λ step. FollowsTo limit Enters place number step answer)
+      DoesThen (EndifSteps number state opens) answer (λ step. FollowsTo limit Enters place number step answer)
 
   -- ---- by the name of a directive
 
@@ -106,7 +106,7 @@ module _ (limit : ℕ) (Enters : Place → ℕ → Header → State → Result S
   -- what a directive does by its name is what it does by its kind
   named_then : (number : ℕ) (name : Token) (tokens : List Token) (state : State) (opens : List Conditional) (answer : Result Reading PreFault)
       (ends else_one elif_one opens_one : Bool)
-      → Reads (named_steps number name tokens state opens ends else_one elif_one opens_one) answer (λ step. FollowsTo limit Enters place number step answer)
+      → DoesThen (named_steps number name tokens state opens ends else_one elif_one opens_one) answer (λ step. FollowsTo limit Enters place number step answer)
       → KindThen (if ends then EndifLine number else if else_one then ElseLine number else if elif_one then ElifLine number tokens
       else if opens_one then IfLine number name tokens else ControlLine number (name ∷ tokens)) opens state answer
   named_then number name tokens state [] answer true true true opens_one h = h
@@ -151,14 +151,14 @@ module _ (limit : ℕ) (Enters : Place → ℕ → Header → State → Result S
       → StepsLine limit Enters place reading line answer → StepsText place limit reading line answer
   text_steps line reading answer kind h =
       text_at (directive_in line) (StepsText place limit reading line answer)
-      (λ found. Reads (Ends place limit reading.state reading.text) answer (λ ended. StepsThen limit Enters place found.0.span.line reading.opens found.1 ended answer))
+      (λ found. DoesThen (Ends place limit reading.state reading.text) answer (λ ended. StepsThen limit Enters place found.0.span.line reading.opens found.1 ended answer))
       kind h
 
   -- a line that is no text line has one
   kind_at : (found : Option (Token × List Token)) (kind : Line) (reading : Reading) (answer : Result Reading PreFault) (Counts : Type 0)
       → IsDirective kind → line_by found ≡ kind
-      → MatchOption found Counts (λ f. Reads (Ends place limit reading.state reading.text) answer (λ ended. StepsThen limit Enters place f.0.span.line reading.opens f.1 ended answer))
-      → Reads (Ends place limit reading.state reading.text) answer (λ ended. KindThen kind reading.opens ended answer)
+      → MatchOption found Counts (λ f. DoesThen (Ends place limit reading.state reading.text) answer (λ ended. StepsThen limit Enters place f.0.span.line reading.opens f.1 ended answer))
+      → DoesThen (Ends place limit reading.state reading.text) answer (λ ended. KindThen kind reading.opens ended answer)
   kind_at None kind reading answer Counts directive same h = absurd (subst IsDirective (sym same) directive)
   kind_at (Some f) kind reading answer Counts directive same h =
       reads_map (Ends place limit reading.state reading.text) answer
@@ -169,7 +169,7 @@ module _ (limit : ℕ) (Enters : Place → ℕ → Header → State → Result S
   -- a directive ends the text before it, and then its kind says what is done
   pub kind_steps : (line : List Token) (kind : Line) (reading : Reading) (answer : Result Reading PreFault) → IsDirective kind → line_of line ≡ kind
       → StepsLine limit Enters place reading line answer
-      → Reads (Ends place limit reading.state reading.text) answer (λ ended. KindThen kind reading.opens ended answer)
+      → DoesThen (Ends place limit reading.state reading.text) answer (λ ended. KindThen kind reading.opens ended answer)
   kind_steps line kind reading answer directive same h =
       kind_at (directive_in line) kind reading answer (StepsText place limit reading line answer) directive same h
 
@@ -178,14 +178,14 @@ module _ (limit : ℕ) (Enters : Place → ℕ → Header → State → Result S
   -- the text before a directive is expanded first
   ends_at : (found : Option (Token × List Token)) (kind : Line) (state : State) (opens : List Conditional) (text : List Token) (answer : Result State PreFault)
       (Counts : Result Reading PreFault → Type 0) (Again : State → Result Reading PreFault → Type 0) (Next : Reading → Type 0) → IsDirective kind → line_by found ≡ kind
-      → Reads (λ (read : Result Reading PreFault). MatchOption found (Counts read)
-      (λ f. Reads (Ends place limit state text) read (λ ended. StepsThen limit Enters place f.0.span.line opens f.1 ended read))) answer Next
-      → Reads (Ends place limit state text) answer (λ after. Reads (λ (read : Result Reading PreFault). MatchOption found (Again after read)
-      (λ f. Reads (Ends place limit after []) read (λ ended. StepsThen limit Enters place f.0.span.line opens f.1 ended read))) answer Next)
+      → DoesThen (λ (read : Result Reading PreFault). MatchOption found (Counts read)
+      (λ f. DoesThen (Ends place limit state text) read (λ ended. StepsThen limit Enters place f.0.span.line opens f.1 ended read))) answer Next
+      → DoesThen (Ends place limit state text) answer (λ after. DoesThen (λ (read : Result Reading PreFault). MatchOption found (Again after read)
+      (λ f. DoesThen (Ends place limit after []) read (λ ended. StepsThen limit Enters place f.0.span.line opens f.1 ended read))) answer Next)
   ends_at None kind state opens text answer Counts Again Next directive same h = absurd (subst IsDirective (sym same) directive)
   ends_at (Some f) kind state opens text answer Counts Again Next directive same h =
-      reads_map (Ends place limit state text) answer (λ ended. Reads (StepsThen limit Enters place f.0.span.line opens f.1 ended) answer Next)
-      (λ after. Reads (λ (read : Result Reading PreFault). Reads (Ends place limit after []) read (λ ended. StepsThen limit Enters place f.0.span.line opens f.1 ended read)) answer Next)
+      reads_map (Ends place limit state text) answer (λ ended. DoesThen (StepsThen limit Enters place f.0.span.line opens f.1 ended) answer Next)
+      (λ after. DoesThen (λ (read : Result Reading PreFault). DoesThen (Ends place limit after []) read (λ ended. StepsThen limit Enters place f.0.span.line opens f.1 ended read)) answer Next)
       (λ after then_on.
       reads_outward (Ends place limit after []) (λ ended. StepsThen limit Enters place f.0.span.line opens f.1 ended) answer Next
       (Ok after, ends_nothing place limit after, then_on))
@@ -193,8 +193,8 @@ module _ (limit : ℕ) (Enters : Place → ℕ → Header → State → Result S
 
   -- the text before a directive can be expanded where the directive begins
   pub text_ends : (line : List Token) (kind : Line) (state : State) (opens : List Conditional) (text : List Token) (answer : Result State PreFault) (Next : Reading → Type 0)
-      → IsDirective kind → line_of line ≡ kind → Reads (StepsLine limit Enters place (known state opens text) line) answer Next
-      → Reads (Ends place limit state text) answer (λ after. Reads (StepsLine limit Enters place (known after opens []) line) answer Next)
+      → IsDirective kind → line_of line ≡ kind → DoesThen (StepsLine limit Enters place (known state opens text) line) answer Next
+      → DoesThen (Ends place limit state text) answer (λ after. DoesThen (StepsLine limit Enters place (known after opens []) line) answer Next)
   text_ends line kind state opens text answer Next directive same h =
       ends_at (directive_in line) kind state opens text answer (StepsText place limit (known state opens text) line)
       (λ after. StepsText place limit (known after opens []) line) Next directive same h

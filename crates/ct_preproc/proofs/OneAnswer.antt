@@ -3,7 +3,7 @@ use Rattle.std.proofs.Common.{◌≡◌, Bool, true, false, Option, Some, None, 
 use Rattle.std.specs.Prelude.{Result, Ok, Err, MatchOption}
 use Rattle.std.specs.Bool.{MatchBool}
 use Rattle.ct_directive.specs.declared.faults.PreFault.{PreFault}
-use Rattle.ct_preproc.specs.Reading.{Goes, Reads}
+use Rattle.ct_preproc.specs.Reading.{Goes, DoesThen}
 
 -- one thing at most has this property
 abbrev pub HasOne : {A : Type 0} → (A → Type 0) → Type 0
@@ -28,6 +28,6 @@ goes_one (Err fault) Next next a b f g = f ∙ sym g
 
 -- a step with one answer at most, and such a step behind each value of it
 pub reads_one : {A B : Type 0} (Does : Result A PreFault → Type 0) (Next : A → Result B PreFault → Type 0) → HasOne Does
-    → ((v : A) → HasOne (Next v)) → HasOne (λ (a : Result B PreFault). Reads Does a (λ v. Next v a))
+    → ((v : A) → HasOne (Next v)) → HasOne (λ (a : Result B PreFault). DoesThen Does a (λ v. Next v a))
 reads_one {A} Does Next does next a b f g =
     goes_one g.0 Next next a b (subst (λ (r : Result A PreFault). Goes r a (λ v. Next v a)) (does f.0 g.0 f.1 g.1) f.2) g.2

@@ -23,8 +23,8 @@ use Rattle.ct_preproc.specs.declared.state.Place.{Place}
 use Rattle.ct_preproc.specs.declared.units.SourceUnit.{SourceUnit}
 use Rattle.ct_preproc.specs.Directives.{Acts, Condition, FirstCondition}
 use Rattle.ct_preproc.specs.Files.{ActsFully, Enters, Follows, Included, ReadsFile, ReadsGroup, ReadsLines, ReadsOthers, ReadsTarget, Returns, begins, closes, inside, with_count, with_include}
-use Rattle.ct_preproc.specs.Reading.{Ends, IsLexed, Reads, counts, fault_at, number_of, with_path}
-use Rattle.ct_preproc.specs.Units.{Defined, DefinesUnit, HasDefine, HaveDefines, IsUnit, ReadsUnit, empty, main_file, most_includes, most_tokens, predefined, replaced, unit_of}
+use Rattle.ct_preproc.specs.Reading.{Ends, IsLexed, DoesThen, counts, fault_at, file_number, with_path}
+use Rattle.ct_preproc.specs.Units.{Defined, DefinesUnit, HasDefine, HaveDefines, IsPreprocessedUnit, ReadsUnit, empty, main_file, most_includes, most_tokens, predefined, replaced, unit_of}
 use Rattle.ct_preproc.proofs.OneAnswer.{HasOne, this_one, choice_one, case_one, reads_one}
 use Rattle.ct_preproc.proofs.OneDirective.{acts_one, condition_one, first_condition_one}
 use Rattle.ct_preproc.proofs.OneLaws.{Laws}
@@ -52,18 +52,18 @@ module _ (laws : Laws) (limit : ℕ) (Opens : Place → ℕ → Header → State
         (this_one (counts place limit state.counted line)) (λ counted. group_one (with_count state counted) (text ++ line) behind) a b f g
     group_one state text (Control number tokens behind) a b f g =
         reads_one (Ends place limit state text)
-        (λ ended answer. Reads (ActsFully limit Opens place number tokens ended) answer (λ after. ReadsGroup limit Opens place after [] behind answer))
+        (λ ended answer. DoesThen (ActsFully limit Opens place number tokens ended) answer (λ after. ReadsGroup limit Opens place after [] behind answer))
         (ends_one laws place limit state text)
         (λ ended. reads_one (ActsFully limit Opens place number tokens ended) (λ after. ReadsGroup limit Opens place after [] behind)
         (acts_fully_one number tokens ended) (λ after. group_one after [] behind)) a b f g
     group_one state text (Section number name tokens inner others behind) a b f g =
         reads_one (Ends place limit state text)
-        (λ ended answer. Reads (FirstCondition place limit number ended name tokens) answer
-        (λ found. Reads (λ read. MatchBool found.0 (ReadsGroup limit Opens place found.1 [] inner read) (ReadsOthers limit Opens place found.1 others read)) answer
+        (λ ended answer. DoesThen (FirstCondition place limit number ended name tokens) answer
+        (λ found. DoesThen (λ read. MatchBool found.0 (ReadsGroup limit Opens place found.1 [] inner read) (ReadsOthers limit Opens place found.1 others read)) answer
         (λ after. ReadsGroup limit Opens place after [] behind answer)))
         (ends_one laws place limit state text)
         (λ ended. reads_one (FirstCondition place limit number ended name tokens)
-        (λ found answer. Reads (λ read. MatchBool found.0 (ReadsGroup limit Opens place found.1 [] inner read) (ReadsOthers limit Opens place found.1 others read)) answer
+        (λ found answer. DoesThen (λ read. MatchBool found.0 (ReadsGroup limit Opens place found.1 [] inner read) (ReadsOthers limit Opens place found.1 others read)) answer
         (λ after. ReadsGroup limit Opens place after [] behind answer))
         (first_condition_one laws place limit number ended name tokens)
         (λ found. reads_one (λ read. MatchBool found.0 (ReadsGroup limit Opens place found.1 [] inner read) (ReadsOthers limit Opens place found.1 others read))
@@ -82,7 +82,7 @@ module _ (laws : Laws) (limit : ℕ) (Opens : Place → ℕ → Header → State
     others_one state (Else inner) a b f g = group_one state [] inner a b f g
 
   abbrev ReadsOutline : State → Group → Option ℕ → Result State PreFault → Type 0
-  ReadsOutline state group broken answer = Reads (ReadsGroup limit Opens place state [] group) answer (λ after. answer ≡ closes place broken after)
+  ReadsOutline state group broken answer = DoesThen (ReadsGroup limit Opens place state [] group) answer (λ after. answer ≡ closes place broken after)
 
   outline_one : (state : State) (group : Group) (broken : Option ℕ) → HasOne (ReadsOutline state group broken)
   outline_one state group broken =
@@ -100,9 +100,9 @@ module _ (laws : Laws) (limit : ℕ) (Opens : Place → ℕ → Header → State
     (opens_one : (place : Place) (line : ℕ) (header : Header) (state : State) → HasOne (Opens place line header state)) where
   file_one : (place : Place) (text : List ℕ) (built_in : Bool) (state : State) → HasOne (ReadsFile limit Opens place text built_in state)
   file_one place text built_in state =
-      reads_one (IsLexed place built_in (number_of place.path state.files) text)
+      reads_one (IsLexed place built_in (file_number place.path state.files) text)
       (λ tokens. ReadsLines limit Opens place (begins place state) (lines_of tokens))
-      (lexed_one laws place built_in (number_of place.path state.files) text) (λ tokens. lines_one laws limit Opens opens_one place (begins place state) (lines_of tokens))
+      (lexed_one laws place built_in (file_number place.path state.files) text) (λ tokens. lines_one laws limit Opens opens_one place (begins place state) (lines_of tokens))
 
   -- ---- includes
 
@@ -180,7 +180,7 @@ module _ (laws : Laws) (files : Files) (folders : List (List ℕ)) (heads : Head
   same_text a b e = cc
 
   pub unit_one : (defines : List Define) (path : List ℕ) (a b : Result SourceUnit PreFault)
-      → IsUnit files folders heads headers defines path tool a → IsUnit files folders heads headers defines path tool b → a ≡ b
+      → IsPreprocessedUnit files folders heads headers defines path tool a → IsPreprocessedUnit files folders heads headers defines path tool b → a ≡ b
   unit_one defines path a b f g =
       let text : f.0 ≡ g.0 = same_text f.0 g.0 (sym f.1 ∙ g.1) in
       defines_unit_one (main_file path) g.0 defines a b

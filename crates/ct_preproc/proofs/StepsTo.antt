@@ -8,7 +8,7 @@ use Rattle.ct_preproc.specs.declared.state.State.{State}
 use Rattle.ct_preproc.specs.declared.state.Place.{Place}
 use Rattle.ct_preproc.specs.declared.state.Conditional.{Conditional}
 use Rattle.ct_preproc.specs.declared.reading.Reading.{Reading}
-use Rattle.ct_preproc.specs.Reading.{Reads}
+use Rattle.ct_preproc.specs.Reading.{DoesThen}
 use Rattle.ct_preproc.specs.Steps.{StepsLine}
 
 -- what is known behind some lines
@@ -19,4 +19,4 @@ module _ (limit : ℕ) (Enters : Place → ℕ → Header → State → Result S
     (Then : Reading → Result State PreFault → Type 0) where
   abbrev pub StepsTo : Reading → List (List Token) → Result State PreFault → Type 0
   StepsTo reading [] answer = Then reading answer
-  StepsTo reading (line ∷ lines) answer = Reads (StepsLine limit Enters place reading line) answer (λ next. StepsTo next lines answer)
+  StepsTo reading (line ∷ lines) answer = DoesThen (StepsLine limit Enters place reading line) answer (λ next. StepsTo next lines answer)

@@ -16,7 +16,7 @@ use Rattle.ct_preproc.specs.declared.state.Conditional.{Conditional}
 use Rattle.ct_preproc.specs.declared.directives.Step.{Step}
 use Rattle.ct_preproc.specs.declared.reading.Reading.{Reading}
 use Rattle.ct_preproc.specs.Directives.{Condition}
-use Rattle.ct_preproc.specs.Reading.{Ends, Goes, Reads, counts, fault_at}
+use Rattle.ct_preproc.specs.Reading.{Ends, Goes, DoesThen, counts, fault_at}
 use Rattle.ct_preproc.specs.Steps.{Answer, ActsInRead, Controls, Elifs, FollowsTo, Opens, OtherSteps, Steps, StepsDirective, StepsLine, StepsText, StepsThen, is_active, opened, otherwise, regrouped, skips, step_to, text_answer, with_text}
 
 -- ---- the shapes of open conditionals
@@ -122,7 +122,7 @@ module _ (place : Place) (limit line : ℕ) (state : State) where
 
   -- the condition of an `#elif` leaves the shapes
   elifs_behind : (asks : Bool) (one : Conditional) (others : List Conditional) (tokens : List Token) (answer : Answer)
-      → MatchBool asks (Reads (Condition place limit line state tokens) answer (λ found. answer ≡ Ok (step_to (regrouped one found.0 ∷ others) found.1)))
+      → MatchBool asks (DoesThen (Condition place limit line state tokens) answer (λ found. answer ≡ Ok (step_to (regrouped one found.0 ∷ others) found.1)))
       (answer ≡ Ok (step_to (regrouped one false ∷ others) state))
       → Behind (Some (shapes_of (one ∷ others))) answer
   elifs_behind true one others tokens answer does =
@@ -243,7 +243,7 @@ module _ (limit : ℕ) (Enters : Place → ℕ → Header → State → Result S
 
   directive_refused : (reading : Reading) (line : ℕ) (tokens : List Token) (answer : Result Reading PreFault) → StepsDirective limit Enters place reading line tokens answer
       → behind (directive_line line tokens) (shapes_of reading.opens) ≡ None
-      → Reads (Ends place limit reading.state reading.text) answer (λ after. answer ≡ Err (fault_at place line pre.Unbalanced))
+      → DoesThen (Ends place limit reading.state reading.text) answer (λ after. answer ≡ Err (fault_at place line pre.Unbalanced))
   directive_refused reading line tokens answer does broken = (
     does.0,
     does.1,
@@ -256,15 +256,15 @@ module _ (limit : ℕ) (Enters : Place → ℕ → Header → State → Result S
   line_refused : (there : Option (Token × List Token)) (reading : Reading) (line : List Token) (found : Token × List Token) (answer : Result Reading PreFault)
       → MatchOption there (StepsText place limit reading line answer) (λ found. StepsDirective limit Enters place reading found.0.span.line found.1 answer)
       → behind (line_by there) (shapes_of reading.opens) ≡ None → there ≡ Some found
-      → Reads (Ends place limit reading.state reading.text) answer (λ after. answer ≡ Err (fault_at place found.0.span.line pre.Unbalanced))
+      → DoesThen (Ends place limit reading.state reading.text) answer (λ after. answer ≡ Err (fault_at place found.0.span.line pre.Unbalanced))
   line_refused None reading line found answer does broken is = absurd cc
   line_refused (Some other) reading line found answer does broken is =
       let same : other ≡ found = cc in
-      subst (λ (f : Token × List Token). Reads (Ends place limit reading.state reading.text) answer (λ after. answer ≡ Err (fault_at place f.0.span.line pre.Unbalanced))) same
+      subst (λ (f : Token × List Token). DoesThen (Ends place limit reading.state reading.text) answer (λ after. answer ≡ Err (fault_at place f.0.span.line pre.Unbalanced))) same
       (directive_refused reading other.0.span.line other.1 answer does broken)
 
   -- a line that breaks the open conditionals is refused, behind the text before it
   pub steps_refused : (reading : Reading) (line : List Token) (found : Token × List Token) (answer : Result Reading PreFault) → directive_in line ≡ Some found
       → StepsLine limit Enters place reading line answer → behind (line_of line) (shapes_of reading.opens) ≡ None
-      → Reads (Ends place limit reading.state reading.text) answer (λ after. answer ≡ Err (fault_at place found.0.span.line pre.Unbalanced))
+      → DoesThen (Ends place limit reading.state reading.text) answer (λ after. answer ≡ Err (fault_at place found.0.span.line pre.Unbalanced))
   steps_refused reading line found answer is does broken = line_refused (directive_in line) reading line found answer does broken is

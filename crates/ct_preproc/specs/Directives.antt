@@ -9,7 +9,7 @@ use Rattle.ct_directive.specs.declared.forms.Header.{Header}
 use Rattle.ct_preproc.specs.declared.state.State.{State}
 use Rattle.ct_preproc.specs.declared.state.Place.{Place}
 use Rattle.ct_directive.specs.Forms.{one_name, undefined_name, definition_in, is, first_other}
-use Rattle.ct_preproc.specs.Reading.{Reads, fault_at, Holds, name_answer, HasDefined, undefines, Names, with_file}
+use Rattle.ct_preproc.specs.Reading.{DoesThen, fault_at, Holds, name_answer, HasDefined, undefines, Names, with_file}
 
 -- Tokens of which one begins no preprocessing token are refused.
 abbrev pub Formed : {A : Type 0} → Place → List Token → Result A PreFault → Type 0 → Type 0
@@ -31,11 +31,11 @@ abbrev pub pragma : Place → State → List Token → State
 pragma place state tokens = if is_once tokens then record state { once = with_file place.path state.once } else state
 
 abbrev pub Changes : (Result State PreFault → Type 0) → Effect → Type 0
-Changes Does answer = Reads Does answer (λ state. answer ≡ Ok (state, None))
+Changes Does answer = DoesThen Does answer (λ state. answer ≡ Ok (state, None))
 
 abbrev pub Includes : Place → ℕ → ℕ → State → List Token → Effect → Type 0
 Includes place limit line state tokens answer =
-    Reads (Names place limit line state tokens) answer (λ found. answer ≡ Ok (found.1, Some found.0))
+    DoesThen (Names place limit line state tokens) answer (λ found. answer ≡ Ok (found.1, Some found.0))
 
 -- by the name behind the `#`, where each token is a preprocessing token
 abbrev pub NamedActs : Place → ℕ → ℕ → State → Token → List Token → Effect → Type 0

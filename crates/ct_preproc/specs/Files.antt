@@ -17,7 +17,7 @@ use Rattle.ct_preproc.specs.declared.state.Place.{Place}
 use Rattle.ct_preproc.specs.Directives.{Acts, Condition, FirstCondition}
 use Rattle.ct_directive.specs.Headers.{BuiltIn}
 use Rattle.ct_directive.specs.Lines.{lines_of}
-use Rattle.ct_preproc.specs.Reading.{Reads, fault_at, IsLexed, counts, Ends, with_file, with_path, number_of}
+use Rattle.ct_preproc.specs.Reading.{DoesThen, fault_at, IsLexed, counts, Ends, with_file, with_path, file_number}
 use Rattle.ct_directive.specs.Search.{Means}
 
 abbrev pub with_include : Place → ℕ → List ℕ → List ℕ → State → State
@@ -47,7 +47,7 @@ module _ (limit : ℕ) (Enters : Place → ℕ → Header → State → Result S
 
   abbrev pub ActsFully : Place → ℕ → List Token → State → Result State PreFault → Type 0
   ActsFully place line tokens state answer =
-      Reads (Acts place limit line state tokens) answer (λ found. Follows place line found.1 found.0 answer)
+      DoesThen (Acts place limit line state tokens) answer (λ found. Follows place line found.1 found.0 answer)
 
   abbrev mutual
     -- A group is read in a state and behind text lines that are not yet expanded: these and the ones that follow are
@@ -55,22 +55,22 @@ module _ (limit : ℕ) (Enters : Place → ℕ → Header → State → Result S
     pub ReadsGroup : Place → State → List Token → Group → Result State PreFault → Type 0
     ReadsGroup place state text Nothing answer = Ends place limit state text answer
     ReadsGroup place state text (Text line behind) answer =
-        Reads (λ found. found ≡ counts place limit state.counted line) answer
+        DoesThen (λ found. found ≡ counts place limit state.counted line) answer
         (λ counted. ReadsGroup place (with_count state counted) (text ++ line) behind answer)
     ReadsGroup place state text (Control number tokens behind) answer =
-        Reads (Ends place limit state text) answer
-        (λ ended. Reads (ActsFully place number tokens ended) answer (λ after. ReadsGroup place after [] behind answer))
+        DoesThen (Ends place limit state text) answer
+        (λ ended. DoesThen (ActsFully place number tokens ended) answer (λ after. ReadsGroup place after [] behind answer))
     ReadsGroup place state text (Section number name tokens inner others behind) answer =
-        Reads (Ends place limit state text) answer
-        (λ ended. Reads (FirstCondition place limit number ended name tokens) answer
-        (λ found. Reads (λ read. MatchBool found.0 (ReadsGroup place found.1 [] inner read) (ReadsOthers place found.1 others read)) answer
+        DoesThen (Ends place limit state text) answer
+        (λ ended. DoesThen (FirstCondition place limit number ended name tokens) answer
+        (λ found. DoesThen (λ read. MatchBool found.0 (ReadsGroup place found.1 [] inner read) (ReadsOthers place found.1 others read)) answer
         (λ after. ReadsGroup place after [] behind answer)))
 
     -- the further groups of a conditional, where none before was read
     pub ReadsOthers : Place → State → Others → Result State PreFault → Type 0
     ReadsOthers place state NoOthers answer = answer ≡ Ok state
     ReadsOthers place state (Elif number tokens inner others) answer =
-        Reads (Condition place limit number state tokens) answer
+        DoesThen (Condition place limit number state tokens) answer
         (λ found. MatchBool found.0 (ReadsGroup place found.1 [] inner answer) (ReadsOthers place found.1 others answer))
     ReadsOthers place state (Else inner) answer = ReadsGroup place state [] inner answer
 
@@ -78,17 +78,17 @@ module _ (limit : ℕ) (Enters : Place → ℕ → Header → State → Result S
   abbrev pub ReadsLines : Place → State → List (List Token) → Result State PreFault → Type 0
   ReadsLines place state lines answer =
       (group : Group) × (broken : Option ℕ) × IsOutline lines group broken
-      × Reads (ReadsGroup place state [] group) answer (λ after. answer ≡ closes place broken after)
+      × DoesThen (ReadsGroup place state [] group) answer (λ after. answer ≡ closes place broken after)
 
   abbrev pub ReadsFile : Place → List ℕ → Bool → State → Result State PreFault → Type 0
   ReadsFile place text built_in state answer =
-      Reads (IsLexed place built_in (number_of place.path state.files) text) answer
+      DoesThen (IsLexed place built_in (file_number place.path state.files) text) answer
       (λ tokens. ReadsLines place (begins place state) (lines_of tokens) answer)
 
   -- behind an include `__FILE__` is again the path of the file that includes
   abbrev pub Returns : Place → Target → State → Result State PreFault → Type 0
   Returns place target state answer =
-      Reads (ReadsFile (inside place target.path) target.text target.built_in state) answer
+      DoesThen (ReadsFile (inside place target.path) target.text target.built_in state) answer
       (λ after. answer ≡ Ok (record after { macros = with_path place.path after.macros }))
 
   -- An include is noted. Its file is read, if it is none whose `#pragma once` was met.

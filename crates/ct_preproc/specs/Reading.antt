@@ -38,8 +38,8 @@ Goes (Ok value) answer next = next value
 Goes (Err fault) answer next = answer ≡ Err fault
 
 -- the same, where what is read is said
-abbrev pub Reads : {A B : Type 0} → (Result A PreFault → Type 0) → Result B PreFault → (A → Type 0) → Type 0
-Reads {A} Does answer next = (found : Result A PreFault) × Does found × Goes found answer next
+abbrev pub DoesThen : {A B : Type 0} → (Result A PreFault → Type 0) → Result B PreFault → (A → Type 0) → Type 0
+DoesThen {A} Does answer next = (found : Result A PreFault) × Does found × Goes found answer next
 
 -- a refusal, unless memory ran out
 abbrev pub IsFault : Fail PreFault → PreFault → Type 0
@@ -64,9 +64,9 @@ with_path path macros =
 abbrev pub with_file : List ℕ → List (List ℕ) → List (List ℕ)
 with_file path files = if list_any (bytes_eq path) files then files else files ++ path ∷ []
 
-abbrev pub number_of : List ℕ → List (List ℕ) → ℕ
-number_of path [] = 0
-number_of path (file ∷ files) = if bytes_eq path file then 0 else number_of path files + 1
+abbrev pub file_number : List ℕ → List (List ℕ) → ℕ
+file_number path [] = 0
+file_number path (file ∷ files) = if bytes_eq path file then 0 else file_number path files + 1
 
 -- the tokens of a built-in header have no line
 abbrev pub unplaced : Token → Token
@@ -119,7 +119,7 @@ Expands place limit state tokens (Err fault) =
 -- the text lines behind the last directive are expanded as one list
 abbrev pub Ends : Place → ℕ → State → List Token → Result State PreFault → Type 0
 Ends place limit state text answer =
-    Reads (Expands place limit state text) answer (λ found. answer ≡ Ok (record found.1 { tokens = found.1.tokens ++ found.0 }))
+    DoesThen (Expands place limit state text) answer (λ found. answer ≡ Ok (record found.1 { tokens = found.1.tokens ++ found.0 }))
 
 -- ---- conditions (6.10.1)
 
@@ -136,7 +136,7 @@ Judged place line after words answer =
 -- `defined` is replaced before the expansion, and again behind it
 abbrev pub Holds : Place → ℕ → ℕ → State → List Token → Result (Bool × State) PreFault → Type 0
 Holds place limit line state tokens answer =
-    Reads (Expands place limit state (without_defined state.macros tokens)) answer
+    DoesThen (Expands place limit state (without_defined state.macros tokens)) answer
     (λ found. Judged place line found.1 (without_defined found.1.macros found.0) answer)
 
 -- `#ifdef` asks whether a name is defined, and `#ifndef` whether it is not
@@ -148,10 +148,10 @@ name_answer place line defined state (Some name) = Ok ((if defined then is_defin
 
 abbrev pub HasDefined : Place → ℕ → State → Option Macro → Result State PreFault → Type 0
 HasDefined place line state None answer = answer ≡ Err (fault_at place line pre.BadDirective)
-HasDefined place line state (Some m) answer =
-    MatchBool (is_malformed m) (answer ≡ Err (fault_at place line pre.BadDefinition))
-    ((IsRedefined state.macros m × (answer ≡ Err (fault_at place line pre.Redefined)))
-    ⊎ ((macros : List Macro) × Defines state.macros m macros × (answer ≡ Ok (record state { macros = macros }))))
+HasDefined place line state (Some definition) answer =
+    MatchBool (is_malformed definition) (answer ≡ Err (fault_at place line pre.BadDefinition))
+    ((IsRedefined state.macros definition × (answer ≡ Err (fault_at place line pre.Redefined)))
+    ⊎ ((macros : List Macro) × Defines state.macros definition macros × (answer ≡ Ok (record state { macros = macros }))))
 
 abbrev pub undefines : Place → ℕ → State → Option (List ℕ) → Result State PreFault
 undefines place line state None = Err (fault_at place line pre.BadDirective)
@@ -166,7 +166,7 @@ quoted_answer place line after (Some header) = Ok (header, after)
 -- tokens of another form are expanded, and are then one string
 abbrev pub NamesExpanded : Place → ℕ → ℕ → State → List Token → Result (Header × State) PreFault → Type 0
 NamesExpanded place limit line state tokens answer =
-    Reads (Expands place limit state tokens) answer (λ found. answer ≡ quoted_answer place line found.1 (quoted_header found.0))
+    DoesThen (Expands place limit state tokens) answer (λ found. answer ≡ quoted_answer place line found.1 (quoted_header found.0))
 
 -- the header name of a directive
 abbrev pub Names : Place → ℕ → ℕ → State → List Token → Result (Header × State) PreFault → Type 0

@@ -16,7 +16,7 @@ use Rattle.ct_preproc.specs.declared.directives.Step.{Step}
 use Rattle.ct_preproc.specs.declared.reading.Reading.{Reading}
 use Rattle.ct_preproc.specs.Directives.{Acts, Condition, FirstCondition}
 use Rattle.ct_preproc.specs.Files.{Follows, begins, with_count}
-use Rattle.ct_preproc.specs.Reading.{Reads, fault_at, counts, Ends}
+use Rattle.ct_preproc.specs.Reading.{DoesThen, fault_at, counts, Ends}
 
 -- ---- open conditionals, the innermost first
 
@@ -48,12 +48,12 @@ step_to opens state = record { state = state; opens = opens; header = None }
 -- a control line, in text that is read
 abbrev pub Controls : Place → ℕ → ℕ → State → List Conditional → List Token → Answer → Type 0
 Controls place limit line state opens tokens answer =
-    Reads (Acts place limit line state tokens) answer (λ found. answer ≡ Ok (record { state = found.0; opens = opens; header = found.1 }))
+    DoesThen (Acts place limit line state tokens) answer (λ found. answer ≡ Ok (record { state = found.0; opens = opens; header = found.1 }))
 
 -- a directive that opens a conditional, in text that is read
 abbrev pub Opens : Place → ℕ → ℕ → State → List Conditional → Token → List Token → Answer → Type 0
 Opens place limit line state opens name tokens answer =
-    Reads (FirstCondition place limit line state name tokens) answer (λ found. answer ≡ Ok (step_to (opened line true found.0 ∷ opens) found.1))
+    DoesThen (FirstCondition place limit line state name tokens) answer (λ found. answer ≡ Ok (step_to (opened line true found.0 ∷ opens) found.1))
 
 abbrev pub ActsInRead : Place → ℕ → ℕ → State → List Conditional → List Token → Answer → Type 0
 ActsInRead place limit line state opens [] answer = Controls place limit line state opens [] answer
@@ -69,7 +69,7 @@ skips line state opens (name ∷ tokens) = step_to (if opens_group name then ope
 abbrev pub Elifs : Place → ℕ → ℕ → State → Conditional → List Conditional → List Token → Answer → Type 0
 Elifs place limit line state one others tokens answer =
     MatchBool (one.outer && not one.taken)
-    (Reads (Condition place limit line state tokens) answer (λ found. answer ≡ Ok (step_to (regrouped one found.0 ∷ others) found.1)))
+    (DoesThen (Condition place limit line state tokens) answer (λ found. answer ≡ Ok (step_to (regrouped one found.0 ∷ others) found.1)))
     (answer ≡ Ok (step_to (regrouped one false ∷ others) state))
 
 -- `#elif`, `#else` and `#endif`, which belong to the innermost open conditional
@@ -122,22 +122,22 @@ closed place (one ∷ others) state = Err (fault_at place one.line pre.Unbalance
 
 abbrev pub Closes : Place → ℕ → Reading → Result State PreFault → Type 0
 Closes place limit reading answer =
-    Reads (Ends place limit reading.state reading.text) answer (λ after. answer ≡ closed place reading.opens after)
+    DoesThen (Ends place limit reading.state reading.text) answer (λ after. answer ≡ closed place reading.opens after)
 
 module _ (limit : ℕ) (Enters : Place → ℕ → Header → State → Result State PreFault → Type 0) where
   -- what is known behind a directive
   abbrev pub FollowsTo : Place → ℕ → Step → Result Reading PreFault → Type 0
   FollowsTo place line step answer =
-      Reads (Follows limit Enters place line step.header step.state) answer (λ after. answer ≡ Ok (record { state = after; opens = step.opens; text = [] }))
+      DoesThen (Follows limit Enters place line step.header step.state) answer (λ after. answer ≡ Ok (record { state = after; opens = step.opens; text = [] }))
 
   abbrev pub StepsThen : Place → ℕ → List Conditional → List Token → State → Result Reading PreFault → Type 0
   StepsThen place line opens tokens state answer =
-      Reads (Steps place limit line state opens tokens) answer (λ step. FollowsTo place line step answer)
+      DoesThen (Steps place limit line state opens tokens) answer (λ step. FollowsTo place line step answer)
 
   -- a directive acts on what the text before it gives
   abbrev pub StepsDirective : Place → Reading → ℕ → List Token → Result Reading PreFault → Type 0
   StepsDirective place reading line tokens answer =
-      Reads (Ends place limit reading.state reading.text) answer (λ ended. StepsThen place line reading.opens tokens ended answer)
+      DoesThen (Ends place limit reading.state reading.text) answer (λ ended. StepsThen place line reading.opens tokens ended answer)
 
   abbrev pub StepsLine : Place → Reading → List Token → Result Reading PreFault → Type 0
   StepsLine place reading line answer =
@@ -148,4 +148,4 @@ module _ (limit : ℕ) (Enters : Place → ℕ → Header → State → Result S
   abbrev pub StepsLines : Place → Reading → List (List Token) → Result State PreFault → Type 0
   StepsLines place reading [] answer = Closes place limit reading answer
   StepsLines place reading (line ∷ lines) answer =
-      Reads (StepsLine place reading line) answer (λ next. StepsLines place next lines answer)
+      DoesThen (StepsLine place reading line) answer (λ next. StepsLines place next lines answer)

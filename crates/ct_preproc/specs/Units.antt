@@ -17,7 +17,7 @@ use Rattle.ct_preproc.specs.Files.{ReadsFile, Enters}
 use Rattle.ct_directive.specs.Forms.{first_other, object_like}
 use Rattle.ct_directive.specs.Headers.{BuiltIn}
 use Rattle.ct_directive.specs.Lines.{words_of}
-use Rattle.ct_preproc.specs.Reading.{Reads, fault_at, one_token, IsLexed}
+use Rattle.ct_preproc.specs.Reading.{DoesThen, fault_at, one_token, IsLexed}
 
 -- ---- the limits of a unit; a generated one has others
 
@@ -42,12 +42,12 @@ Defined place macros name body answer =
 
 abbrev pub HasDefine : Place → List Macro → Define → Result (List Macro) PreFault → Type 0
 HasDefine place macros define answer =
-    Reads (IsLexed place true 0 define.text) answer (λ tokens. Defined place macros define.name (words_of tokens) answer)
+    DoesThen (IsLexed place true 0 define.text) answer (λ tokens. Defined place macros define.name (words_of tokens) answer)
 
 abbrev pub HaveDefines : Place → List Macro → List Define → Result (List Macro) PreFault → Type 0
 HaveDefines place macros [] answer = answer ≡ Ok macros
 HaveDefines place macros (define ∷ defines) answer =
-    Reads (HasDefine place macros define) answer (λ more. HaveDefines place more defines answer)
+    DoesThen (HasDefine place macros define) answer (λ more. HaveDefines place more defines answer)
 
 abbrev pub with_number : List ℕ → List ℕ → List Macro → List Macro
 with_number name text macros = without name macros ++ object_like name (one_token kinds.Number text) ∷ []
@@ -70,15 +70,15 @@ empty macros = record { tokens = []; files = []; includes = []; macros = macros;
 -- the unit of a text, where these macros stand at its begin
 abbrev pub ReadsUnit : Files → List (List ℕ) → Heads → List BuiltIn → Bool → Place → List ℕ → List Macro → Result SourceUnit PreFault → Type 0
 ReadsUnit files folders heads headers tool place text macros answer =
-    Reads (ReadsFile (most_tokens tool) (Enters files folders heads headers (most_tokens tool) (most_includes tool)) place text false (empty macros)) answer
+    DoesThen (ReadsFile (most_tokens tool) (Enters files folders heads headers (most_tokens tool) (most_includes tool)) place text false (empty macros)) answer
     (λ state. answer ≡ Ok (unit_of state))
 
 -- the same, where the defines of the project do
 abbrev pub DefinesUnit : Files → List (List ℕ) → Heads → List BuiltIn → Bool → Place → List ℕ → List Define → Result SourceUnit PreFault → Type 0
 DefinesUnit files folders heads headers tool place text defines answer =
-    Reads (HaveDefines place predefined defines) answer (λ macros. ReadsUnit files folders heads headers tool place text macros answer)
+    DoesThen (HaveDefines place predefined defines) answer (λ macros. ReadsUnit files folders heads headers tool place text macros answer)
 
 -- The unit of the file at a path, or its first refusal in reading order.
-abbrev pub IsUnit : Files → List (List ℕ) → Heads → List BuiltIn → List Define → List ℕ → Bool → Result SourceUnit PreFault → Type 0
-IsUnit files folders heads headers defines path tool answer =
+abbrev pub IsPreprocessedUnit : Files → List (List ℕ) → Heads → List BuiltIn → List Define → List ℕ → Bool → Result SourceUnit PreFault → Type 0
+IsPreprocessedUnit files folders heads headers defines path tool answer =
     (text : List ℕ) × (get files path ≡ Some text) × DefinesUnit files folders heads headers tool (main_file path) text defines answer

@@ -5,7 +5,7 @@ ghost use Rattle.ct_directive.specs.Headers.{BuiltIn};
 ghost use Rattle.ct_directive.specs.declared.faults.PreFault.{PreFault};
 ghost use Rattle.ct_directive.specs.declared.heads.Heads.{Heads};
 ghost use Rattle.ct_outside.specs.Files.{Files};
-ghost use Rattle.ct_preproc.specs.Units.{IsUnit};
+ghost use Rattle.ct_preproc.specs.Units.{IsPreprocessedUnit};
 ghost use Rattle.ct_preproc.specs.declared.units.SourceUnit.{SourceUnit};
 ghost use Rattle.ct_settings.specs.declared.record.Define.{Define};
 
@@ -17,8 +17,8 @@ use ct_token::{one_open_comment, one_tokenization};
 /// A file has one unit or one first refusal, so `unit` gives that one.
 pub fn one_unit()
     ensures one { (files : Files) (folders : List (List ℕ)) (heads : Heads) (headers : List BuiltIn) (defines : List Define) (path : List ℕ) (tool : Bool)
-        (a b : Result SourceUnit PreFault) → IsUnit files folders heads headers defines path tool a
-        → IsUnit files folders heads headers defines path tool b → a ≡ b }
+        (a b : Result SourceUnit PreFault) → IsPreprocessedUnit files folders heads headers defines path tool a
+        → IsPreprocessedUnit files folders heads headers defines path tool b → a ≡ b }
 {
     one_tokenization();
     one_open_comment();

@@ -29,8 +29,8 @@ pub fn with_file(alloc: Global, path: &str, files: Items<Text>) -> Mem<Items<Tex
 }
 
 /// The number that a path has among some, or would have behind them.
-pub fn number_of(path: &str, files: &[Text]) -> usize
-    ensures { result ≡ spec.number_of path.now files.now }
+pub fn file_number(path: &str, files: &[Text]) -> usize
+    ensures { result ≡ spec.file_number path.now files.now }
 {
     let mut number = 0;
     let mut rest = files;

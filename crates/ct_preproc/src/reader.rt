@@ -10,7 +10,7 @@ ghost use Rattle.ct_directive.specs.Search as search;
 
 use crate::directives::Step;
 use crate::file::File;
-use crate::paths::{is_among, number_of, with_path};
+use crate::paths::{is_among, file_number, with_path};
 use crate::reading::{Reading, begun, with_include};
 use crate::state::{Opens, Place, State};
 use ct_base::{Items, LimitKind, Mem, Out, Token};
@@ -255,9 +255,9 @@ impl<F: Finder> Reader<'_, F> {
 
 /// The tokens of a file, by the number that it has in a state or is given there.
 fn numbered(file: File<'_>, text: &[u8], built_in: bool, state: &State) -> Out<Vec<Token>, PreFault>
-    ensures tokens { IfOk result (λ tokens. reads.IsLexed file.entry.place.now built_in (reads.number_of file.entry.place.now.path state.now.files) text.now (Ok tokens.items)) }
-    ensures open { IfFault result (λ fault. reads.IsLexed file.entry.place.now built_in (reads.number_of file.entry.place.now.path state.now.files) text.now (Err fault)) }
+    ensures tokens { IfOk result (λ tokens. reads.IsLexed file.entry.place.now built_in (reads.file_number file.entry.place.now.path state.now.files) text.now (Ok tokens.items)) }
+    ensures open { IfFault result (λ fault. reads.IsLexed file.entry.place.now built_in (reads.file_number file.entry.place.now.path state.now.files) text.now (Err fault)) }
 {
-    let number = number_of(file.place.path.as_str(), state.files.as_slice());
+    let number = file_number(file.place.path.as_str(), state.files.as_slice());
     file.lexed(built_in, number, text)
 }

@@ -249,7 +249,7 @@ pub fn unit<F: Finder>(
     tool: bool,
 ) -> Out<SourceUnit, PreFault>
     requires { IsSome (get (F.texts finder.now) path.now) }
-    ensures { OnAnswer result (spec.IsUnit (F.texts finder.now) folders.now heads.now built_in_headers defines.now path.now tool) }
+    ensures { OnAnswer result (spec.IsPreprocessedUnit (F.texts finder.now) folders.now heads.now built_in_headers defines.now path.now tool) }
 {
     let Some(text) = finder.get(path) else {
         return Err(Fail::OutOfMemory);

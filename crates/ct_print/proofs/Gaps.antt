@@ -6,7 +6,8 @@ use Rattle.std.proofs.lemmas.Bool.Decides.{nat_tests}
 use Rattle.std.proofs.lemmas.Bool.{and_parts, and_left, and_right, or_from, or_cases, or_left, or_right, false≢true}
 use Rattle.ct_base.specs.declared.lexical.TokenKind.{TokenKind}
 use Rattle.ct_base.specs.declared.lexical.TokenKind.TheVariants.{Name, Number, Char, Text, Punct, Other, Line}
-use Rattle.ct_token.specs.Bytes.{is_digit, is_nondigit, is_name_byte, is_newline, is_blank, is_quote}
+use Rattle.ct_base.specs.Bytes.{is_digit, is_nondigit, is_name_byte}
+use Rattle.ct_token.specs.Bytes.{is_newline, is_blank, is_quote}
 use Rattle.ct_token.specs.Lexing.{is_one_of, is_punctuator, is_exponent, is_sign, continues_number, all_continue, is_number, is_inside, is_prefix, IsQuoted, IsToken, IsLongest, begins_comment}
 use Rattle.ct_token.proofs.Lists.{all_at}
 use Rattle.ct_token.proofs.Bytes.{is_digit_or_dot, nondigit_no_number}

@@ -15,8 +15,8 @@ use Rattle.ct_syntax.specs.declared.words.Mark.TheVariants.{Semicolon, OpenBrace
 use Rattle.ct_syntax.specs.Words.{Word, Named, Numbered, Quote, Literal, Sign, Key, Stray, mark_text, keyword_text, marks, keywords, is_left_out, mark_of, keyword_of, key_or, sign_or, word_by, word, words, is_text, text_tokens}
 use Rattle.ct_syntax.specs.Trees.{Item}
 use Rattle.ct_syntax.specs.Spelling.{spell_unit}
+use Rattle.ct_base.specs.Bytes.{is_nondigit}
 use Rattle.ct_syntax.specs.Units.{SpellsUnit}
-use Rattle.ct_token.specs.Bytes.{is_nondigit}
 use Rattle.ct_token.specs.Lines.{Placed, joined, joined_bytes, joined_lines}
 use Rattle.ct_token.specs.Lexing.{is_punctuator, IsToken, IsLongest, begins_comment, Piece, Blank, Word as Piece_word, bytes_of, IsPiece, spelled, ArePieces, tokens_of, IsTokenization}
 use Rattle.ct_print.specs.Text.{word_text, gap_behind, text_of}

@@ -3,7 +3,8 @@ use Rattle.std.proofs.Common.{◌≡◌, ℕ, Bool, true, false, ◌||◌, [], �
 use Rattle.std.specs.Prelude.{◌==◌}
 use Rattle.std.proofs.lemmas.Bool.Decides.{nat_tests}
 use Rattle.std.proofs.lemmas.Bool.{or_from}
-use Rattle.ct_token.specs.Bytes.{is_digit, is_nondigit, is_name_byte, is_newline, is_blank}
+use Rattle.ct_base.specs.Bytes.{is_digit, is_nondigit, is_name_byte}
+use Rattle.ct_token.specs.Bytes.{is_newline, is_blank}
 use Rattle.ct_token.specs.Lexing.{is_punctuator, is_other}
 
 -- a digit or a dot, with which a number begins

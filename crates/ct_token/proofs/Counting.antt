@@ -1,6 +1,6 @@
 -- How many bytes a text between quotes spells, byte after byte.
 use Rattle.std.proofs.Common.{◌≡◌, ℕ, ◌+◌, ◌<◌, ◌≤◌, List, [], ◌∷◌, ◌++◌, length, drop, ap, refl, Some, arith, length-append, length-drop}
-use Rattle.ct_token.specs.Constants.{element, element_of, Spells}
+use Rattle.ct_token.specs.Constants.{element, element_of, SpellsBytes}
 use Rattle.ct_token.proofs.Decoding.{SpelledSoFar, nothing_spelled, one_more, all_spelled}
 
 -- So many bytes are spelled so far, each by one byte of the text at least.
@@ -28,6 +28,6 @@ one_more_counted quote inside rest after count count' byte taken so_far is some 
       within = omega (arith, so_far.within, ap length cut, length-drop taken rest, more);
     }
 
-pub all_counted : (quote : ℕ) (inside rest : List ℕ) (count : ℕ) → CountedSoFar quote inside rest count → rest ≡ [] → (bytes : List ℕ) × Spells quote inside bytes × (length bytes ≡ count)
+pub all_counted : (quote : ℕ) (inside rest : List ℕ) (count : ℕ) → CountedSoFar quote inside rest count → rest ≡ [] → (bytes : List ℕ) × SpellsBytes quote inside bytes × (length bytes ≡ count)
 all_counted quote inside rest count so_far none =
     (so_far.found, all_spelled quote inside rest so_far.found so_far.spelled none, so_far.counted)

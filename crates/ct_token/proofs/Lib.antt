@@ -16,3 +16,6 @@ pub mod Unique
 pub mod Numbers
 pub mod Decoding
 pub mod Counting
+pub mod Decided
+pub mod LongestToken
+pub mod Texts

@@ -7,7 +7,8 @@ use Rattle.std.proofs.lemmas.List.Elements.{recursion_from_All}
 use Rattle.std.proofs.lemmas.Bool.{and_parts, and_from, or_cases, or_left, or_right, or_parts, false≢true, eqb-true, ne_eqb}
 use Rattle.ct_base.specs.declared.lexical.TokenKind.{TokenKind}
 use Rattle.ct_base.specs.declared.lexical.TokenKind.TheVariants.{Name, Number, Char, Text, Punct, Other, Line}
-use Rattle.ct_token.specs.Bytes.{is_digit, is_nondigit, is_name_byte, is_blank}
+use Rattle.ct_base.specs.Bytes.{is_digit, is_nondigit, is_name_byte}
+use Rattle.ct_token.specs.Bytes.{is_blank}
 use Rattle.ct_token.specs.Lexing.{is_punctuator, is_other, is_exponent, is_sign, continues_number, all_continue, is_number, IsToken, IsLongest}
 use Rattle.ct_token.proofs.Prefixes.{quoted_first}
 use Rattle.ct_token.proofs.Lists.{none_behind, prefix_stops, prefix_passes, all_at}

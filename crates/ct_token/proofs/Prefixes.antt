@@ -3,7 +3,7 @@ use Rattle.std.proofs.Common.{◌≡◌, ℕ, true, false, ◌&&◌, List, [], �
 use Rattle.std.specs.Prelude.{◌==◌}
 use Rattle.std.specs.List.{AllByRecursion}
 use Rattle.std.proofs.lemmas.Bool.{and_parts, false≢true, eqb-true}
-use Rattle.ct_token.specs.Bytes.{is_nondigit, is_name_byte}
+use Rattle.ct_base.specs.Bytes.{is_nondigit, is_name_byte}
 use Rattle.ct_token.specs.Lexing.{is_prefix, IsQuoted}
 use Rattle.ct_token.proofs.Lists.{first_unlike, all_at}
 use Rattle.ct_token.proofs.Bytes.{nondigit_is_name_byte, prefix_byte_is_nondigit}

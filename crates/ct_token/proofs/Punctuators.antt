@@ -3,7 +3,8 @@ use Rattle.std.proofs.Common.{◌≡◌, ℕ, ◌≤◌, Bool, true, false, ◌&
 use Rattle.std.specs.Prelude.{◌==◌, codes}
 use Rattle.std.proofs.lemmas.Bool.Decides.{nat_tests}
 use Rattle.std.proofs.lemmas.Bool.{and_parts, or_cases, false≢true, false_from_ne_true}
-use Rattle.ct_token.specs.Bytes.{is_between, is_digit, is_nondigit, is_blank, is_quote}
+use Rattle.ct_base.specs.Bytes.{is_between, is_digit, is_nondigit}
+use Rattle.ct_token.specs.Bytes.{is_blank, is_quote}
 use Rattle.ct_token.specs.Lexing.{is_one_of, is_punctuator}
 
 -- a graphic byte other than a letter, a digit, `_`, a quote, `$`, `@`, a backslash or a backquote

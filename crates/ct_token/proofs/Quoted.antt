@@ -8,7 +8,8 @@ use Rattle.std.proofs.lemmas.Bool.{false≢true}
 use Rattle.std.proofs.Math.Seq.{take-append-add, drop-append-add}
 use Rattle.ct_base.specs.declared.lexical.TokenKind.{TokenKind}
 use Rattle.ct_base.specs.declared.lexical.TokenKind.TheVariants.{Name, Number, Char, Text, Punct, Other, Line}
-use Rattle.ct_token.specs.Bytes.{is_nondigit, is_name_byte, is_quote}
+use Rattle.ct_base.specs.Bytes.{is_nondigit, is_name_byte}
+use Rattle.ct_token.specs.Bytes.{is_quote}
 use Rattle.ct_token.specs.Lexing.{is_punctuator, is_number, is_prefix, is_inside, IsQuoted, IsToken, IsLongest}
 use Rattle.ct_token.proofs.Lists.{prefix_stops, prefix_passes}
 use Rattle.ct_token.proofs.Bytes.{is_digit_or_dot, nondigit_no_number}

@@ -8,7 +8,8 @@ use Rattle.std.proofs.lemmas.Bool.{false≢true, eqb-true, cond-true, cond-false
 use Rattle.std.proofs.lemmas.Bool.Decides.{nat_tests}
 use Rattle.ct_base.specs.declared.lexical.TokenKind.{TokenKind}
 use Rattle.ct_base.specs.declared.lexical.TokenKind.TheVariants.{Name, Number, Char, Text, Punct, Other, Line}
-use Rattle.ct_token.specs.Bytes.{is_digit, is_nondigit, is_name_byte, is_newline, is_blank, is_quote}
+use Rattle.ct_base.specs.Bytes.{is_digit, is_nondigit, is_name_byte}
+use Rattle.ct_token.specs.Bytes.{is_newline, is_blank, is_quote}
 use Rattle.ct_token.specs.Lexing.{is_punctuator, is_other, is_number, IsToken}
 use Rattle.ct_token.proofs.Bytes.{is_digit_or_dot}
 use Rattle.ct_token.proofs.Punctuators.{is_mark, begins_with_mark, nondigit_no_mark, quote_no_mark, unmarked, dot_digit}

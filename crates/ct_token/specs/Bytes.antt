@@ -1,24 +1,12 @@
 -- Classes of bytes of which tokens are made (C11 6.4).
-use Rattle.std.specs.Prelude.{ℕ, ◌==◌, ◌&&◌, ◌||◌, Bool, nat_le}
-
-abbrev pub is_between : ℕ → ℕ → ℕ → Bool
-is_between low high byte = nat_le low byte && nat_le byte high
-
-abbrev pub is_digit : ℕ → Bool
-is_digit byte = is_between 48 57 byte
+use Rattle.std.specs.Prelude.{ℕ, ◌==◌, ◌||◌, Bool}
+use Rattle.ct_base.specs.Bytes.{is_between, is_digit}
 
 abbrev pub is_octal_digit : ℕ → Bool
 is_octal_digit byte = is_between 48 55 byte
 
 abbrev pub is_hexadecimal_digit : ℕ → Bool
 is_hexadecimal_digit byte = is_digit byte || is_between 65 70 byte || is_between 97 102 byte
-
--- a letter or `_` (6.4.2.1)
-abbrev pub is_nondigit : ℕ → Bool
-is_nondigit byte = is_between 65 90 byte || is_between 97 122 byte || (byte == 95)
-
-abbrev pub is_name_byte : ℕ → Bool
-is_name_byte byte = is_nondigit byte || is_digit byte
 
 -- the quote of a string literal or of a character constant
 abbrev pub is_quote : ℕ → Bool

@@ -1,7 +1,8 @@
 -- Integer constants (C11 6.4.4.1), and the bytes of character constants and string literals (6.4.4.4, 6.4.5).
 use Rattle.std.specs.Prelude.{◌≡◌, ◌≢◌, ℕ, ◌+◌, ◌*◌, ◌-◌, ◌^◌, ◌==◌, ◌&&◌, ◌||◌, not, min, Bool, true, false, IsTrue, List, [], ◌∷◌, ◌++◌, Option, None, Some, option_and_then, if◌then◌else◌, nat_lt, nat_le, slice_index, length, take, drop, fold}
 use Rattle.std.specs.List.{prefix_len}
-use Rattle.ct_token.specs.Bytes.{is_between, is_digit, is_octal_digit, is_hexadecimal_digit, is_quote}
+use Rattle.ct_base.specs.Bytes.{is_between, is_digit}
+use Rattle.ct_token.specs.Bytes.{is_octal_digit, is_hexadecimal_digit, is_quote}
 use Rattle.ct_token.specs.declared.constants.Base.{Base}
 use Rattle.ct_token.specs.declared.constants.Base.TheVariants.{Octal, Decimal, Hexadecimal}
 use Rattle.ct_token.specs.declared.constants.Literal.{Literal}
@@ -149,10 +150,10 @@ element_of quote (first ∷ rest) =
     if first == 92 then escape_of rest else (if is_plain quote first then Some (element first 1) else None)
 
 -- the text between these quotes spells these bytes
-abbrev pub Spells : ℕ → List ℕ → List ℕ → Type 0
-Spells quote text [] = text ≡ []
-Spells quote text (byte ∷ bytes) =
-    (count : ℕ) × (element_of quote text ≡ Some (element byte count)) × Spells quote (drop count text) bytes
+abbrev pub SpellsBytes : ℕ → List ℕ → List ℕ → Type 0
+SpellsBytes quote text [] = text ≡ []
+SpellsBytes quote text (byte ∷ bytes) =
+    (count : ℕ) × (element_of quote text ≡ Some (element byte count)) × SpellsBytes quote (drop count text) bytes
 
 -- The text is a character constant or a string literal, without an encoding prefix, that spells these bytes.
 -- A character constant has at least one.
@@ -161,5 +162,5 @@ pub record Decodes (text bytes : List ℕ) : Type 0 where
   pub inside : List ℕ
   pub quotes : text ≡ quote ∷ inside ++ quote ∷ []
   pub one_of : IsTrue (is_quote quote)
-  pub spells : Spells quote inside bytes
+  pub spells : SpellsBytes quote inside bytes
   pub some : quote ≡ 39 → bytes ≢ []

@@ -5,7 +5,8 @@ use Rattle.std.specs.List.{list_any}
 use Rattle.ct_base.specs.declared.lexical.Token.{Token}
 use Rattle.ct_base.specs.declared.lexical.TokenKind.{TokenKind}
 use Rattle.ct_base.specs.declared.lexical.TokenKind.TheVariants.{Name, Number, Char, Text, Punct, Other, Line}
-use Rattle.ct_token.specs.Bytes.{is_digit, is_nondigit, is_name_byte, is_newline, is_blank}
+use Rattle.ct_base.specs.Bytes.{is_digit, is_nondigit, is_name_byte}
+use Rattle.ct_token.specs.Bytes.{is_newline, is_blank}
 use Rattle.ct_token.specs.Constants.{is_plain}
 use Rattle.ct_token.specs.Lines.{joined_bytes, joined_lines}
 
@@ -17,15 +18,15 @@ is_one_of bytes byte = list_any (λ other. other == byte) bytes
 -- `...`, `<<=` or `>>=`; `%:%:`.
 abbrev pub is_punctuator : List ℕ → Bool
 is_punctuator [] = false
-is_punctuator (a ∷ []) = is_one_of (codes "[](){}.&*+-~!/%<>^|?:;=,#") a
-is_punctuator (a ∷ b ∷ []) =
-    (is_one_of (codes "<>=!*/%+-&^|") a && (b == 61)) || (is_one_of (codes "+-<>&|#") a && (b == a))
-    || ((a == 45) && (b == 62)) || ((a == 60) && is_one_of (codes ":%") b) || ((a == 37) && is_one_of (codes ">:") b)
-    || ((a == 58) && (b == 62))
-is_punctuator (a ∷ b ∷ c ∷ []) =
-    ((a == 46) && (b == 46) && (c == 46)) || (is_one_of (codes "<>") a && (b == a) && (c == 61))
-is_punctuator (a ∷ b ∷ c ∷ d ∷ []) = (a == 37) && (b == 58) && (c == 37) && (d == 58)
-is_punctuator (a ∷ b ∷ c ∷ d ∷ e ∷ bytes) = false
+is_punctuator (first ∷ []) = is_one_of (codes "[](){}.&*+-~!/%<>^|?:;=,#") first
+is_punctuator (first ∷ second ∷ []) =
+    (is_one_of (codes "<>=!*/%+-&^|") first && (second == 61)) || (is_one_of (codes "+-<>&|#") first && (second == first))
+    || ((first == 45) && (second == 62)) || ((first == 60) && is_one_of (codes ":%") second) || ((first == 37) && is_one_of (codes ">:") second)
+    || ((first == 58) && (second == 62))
+is_punctuator (first ∷ second ∷ third ∷ []) =
+    ((first == 46) && (second == 46) && (third == 46)) || (is_one_of (codes "<>") first && (second == first) && (third == 61))
+is_punctuator (first ∷ second ∷ third ∷ fourth ∷ []) = (first == 37) && (second == 58) && (third == 37) && (fourth == 58)
+is_punctuator (first ∷ second ∷ third ∷ fourth ∷ fifth ∷ bytes) = false
 
 -- a byte that begins none of the other tokens; a quote may begin a longer one
 abbrev pub is_other : ℕ → Bool

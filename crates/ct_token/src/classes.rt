@@ -1,15 +1,10 @@
 //! The classes of bytes of which tokens are made (C11 6.4).
 
 ghost use Rattle.std.specs.Prelude.{◌≡◌, ◌∷◌, []};
-ghost use Rattle.ct_token.specs.Bytes.{is_digit, is_octal_digit, is_hexadecimal_digit, is_quote, is_nondigit, is_name_byte, is_blank};
+ghost use Rattle.ct_token.specs.Bytes.{is_octal_digit, is_hexadecimal_digit, is_quote, is_blank};
 ghost use Rattle.ct_token.specs.Lexing.{is_punctuator, continues_number};
 
-/// A decimal digit.
-pub fn is_digit(byte: u8) -> bool
-    ensures { result ≡ is_digit byte }
-{
-    byte >= b'0' && byte <= b'9'
-}
+use ct_base::is_name_byte;
 
 /// An octal digit.
 pub fn is_octal_digit(byte: u8) -> bool
@@ -30,20 +25,6 @@ pub fn is_quote(byte: u8) -> bool
     ensures { result ≡ is_quote byte }
 {
     matches!(byte, b'"' | b'\'')
-}
-
-/// A letter or `_`.
-pub fn is_nondigit(byte: u8) -> bool
-    ensures { result ≡ is_nondigit byte }
-{
-    matches!(byte, b'A'..=b'Z' | b'a'..=b'z' | b'_')
-}
-
-/// A byte that goes on with a name.
-pub fn is_name_byte(byte: u8) -> bool
-    ensures { result ≡ is_name_byte byte }
-{
-    is_nondigit(byte) || is_digit(byte)
 }
 
 /// White space other than a new-line.

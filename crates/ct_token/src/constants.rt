@@ -4,10 +4,10 @@
 ghost use Rattle.std.specs.Prelude.{◌≡◌, ◌<◌, ◌≤◌, ◌^◌, ◌∷◌, ◌++◌, [], ℕ, List, IsTrue, IfOk, IfSome, MatchOption, if◌then◌else◌, nat_lt, length};
 ghost use Rattle.std.specs.List.{prefix_len};
 ghost use Rattle.ct_token.specs.Bytes.{is_quote};
-ghost use Rattle.ct_token.specs.Constants.{radix, is_digit_in, digit_value, number_in, base_of, unprefixed, is_u, is_l, longs_of, suffix_of, literal_of, integer_of, is_plain, simple_escape, numeric_escape, escape_of, element_of, Spells, Decodes};
+ghost use Rattle.ct_token.specs.Constants.{radix, is_digit_in, digit_value, number_in, base_of, unprefixed, is_u, is_l, longs_of, suffix_of, literal_of, integer_of, is_plain, simple_escape, numeric_escape, escape_of, element_of, SpellsBytes, Decodes};
 
-use crate::classes::{is_digit, is_hexadecimal_digit, is_octal_digit, is_quote};
-use ct_base::Mem;
+use crate::classes::{is_hexadecimal_digit, is_octal_digit, is_quote};
+use ct_base::{Mem, is_digit};
 use std::alloc::Global;
 
 /// The base of an integer constant, or of the digits of an escape.
@@ -266,8 +266,8 @@ fn element_of(quote: u8, text: &[u8]) -> Option<Element>
 /// The bytes that a text between these quotes spells, where it spells any.
 fn decoded(alloc: Global, quote: u8, inside: &[u8]) -> Mem<Option<Vec<u8>>>
     ensures { IfOk result (λ decoded. MatchOption decoded
-        ((bytes : List ℕ) → Spells quote inside.now bytes → ⊥)
-        (λ bytes. Spells quote inside.now bytes.items)) }
+        ((bytes : List ℕ) → SpellsBytes quote inside.now bytes → ⊥)
+        (λ bytes. SpellsBytes quote inside.now bytes.items)) }
 {
     let mut bytes = Vec::new(alloc);
     let mut rest = inside;
@@ -284,8 +284,8 @@ fn decoded(alloc: Global, quote: u8, inside: &[u8]) -> Mem<Option<Vec<u8>>>
 /// How many bytes a text between these quotes spells, where it spells any.
 fn decoded_count(quote: u8, inside: &[u8]) -> Option<usize>
     ensures { MatchOption result
-        ((bytes : List ℕ) → Spells quote inside.now bytes → ⊥)
-        (λ count. (bytes : List ℕ) × Spells quote inside.now bytes × (length bytes ≡ count)) }
+        ((bytes : List ℕ) → SpellsBytes quote inside.now bytes → ⊥)
+        (λ count. (bytes : List ℕ) × SpellsBytes quote inside.now bytes × (length bytes ≡ count)) }
 {
     let mut count = 0;
     let mut rest = inside;

@@ -3,17 +3,17 @@
 
 mod classes;
 mod constants;
+mod laws;
 mod lines;
 mod scan;
 
-ghost use Rattle.std.specs.Prelude.{◌≡◌, ℕ, ◌-◌, ◌^◌, ◌<◌, List, IfOk, length};
-ghost use Rattle.ct_token.specs.Constants.{Decodes};
+ghost use Rattle.std.specs.Prelude.{◌≡◌, ℕ, ◌-◌, ◌^◌, ◌<◌, IfOk, length};
 ghost use Rattle.ct_token.specs.Lexing.{AreTokens, IsOpenAt, IsTokenization, LeavesOpen};
 ghost use Rattle.ct_token.specs.Lines.{newlines};
 ghost use Rattle.ct_base.specs.Answers.{IfFault};
-ghost use Rattle.ct_base.specs.declared.lexical.Token.{Token};
 
 pub use crate::constants::{Literal, character_count, characters, integer};
+pub use crate::laws::{each_text, one_decoding, one_open_comment, one_tokenization};
 use crate::lines::join_lines;
 use crate::scan::{Front, front_of};
 use ct_base::{Bytes, Fail, Out, Span, Token};
@@ -83,21 +83,3 @@ fn cut(alloc: Global, file: u32, bytes: &[u8], lines: &[u32]) -> Out<Vec<Token>,
         }
     }
 }
-
-/// A text spells one list of bytes at most, so `characters` gives that one.
-pub fn one_decoding()
-    ensures { (text a b : List ℕ) → Decodes text a → Decodes text b → a ≡ b }
-{}
-
-/// A text has one list of tokens: no other list is its tokenization, so `tokens` gives that one.
-pub fn one_tokenization()
-    ensures { (file : ℕ) (text : List ℕ) (a b : List Token) →
-        IsTokenization file text a → IsTokenization file text b → a ≡ b }
-{}
-
-/// A text leaves a comment open on one line at most, and none where it has a list of tokens.
-pub fn one_open_comment()
-    ensures one { (text : List ℕ) (a b : ℕ) → LeavesOpen text a → LeavesOpen text b → a ≡ b }
-    ensures apart { (file : ℕ) (text : List ℕ) (tokens : List Token) (line : ℕ) →
-        IsTokenization file text tokens → LeavesOpen text line → ⊥ }
-{}

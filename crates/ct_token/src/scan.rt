@@ -2,15 +2,14 @@
 
 ghost use Rattle.std.specs.Prelude.{◌≡◌, ◌<◌, ◌≤◌, ◌==◌, ◌&&◌, ◌||◌, not, true, false, IsTrue, List, [], ℕ, ◌∷◌, ◌++◌, All, IfNone, IfSome, MatchOption, length, slice_index, take, drop};
 ghost use Rattle.std.specs.List.{prefix_len};
-ghost use Rattle.ct_token.specs.Bytes.{is_blank, is_digit, is_nondigit, is_name_byte, is_newline, is_quote};
+ghost use Rattle.ct_base.specs.Bytes.{is_digit, is_nondigit, is_name_byte};
+ghost use Rattle.ct_token.specs.Bytes.{is_blank, is_newline, is_quote};
 ghost use Rattle.ct_token.specs.Lexing.{is_punctuator, all_continue, is_inside, is_prefix, IsToken, IsLongest, HasNoClose, begins_comment};
 ghost use Rattle.ct_token.specs.Fronts.{IsFront};
 ghost use Rattle.ct_base.specs.declared.lexical.TokenKind.TheVariants.{Char, Text};
 
-use crate::classes::{
-    continues_number, is_blank, is_digit, is_name_byte, is_nondigit, is_punctuator,
-};
-use ct_base::TokenKind;
+use crate::classes::{continues_number, is_blank, is_punctuator};
+use ct_base::{TokenKind, is_digit, is_name_byte, is_nondigit};
 
 /// How many bytes a text begins with that go on with a name.
 fn name_len(text: &[u8]) -> usize

@@ -1,6 +1,6 @@
 use Rattle.std.proofs.Common.{arith}
 use Rattle.std.proofs.lemmas.List.Sums.{prefix_len-le-length}
-use Rattle.ct_token.specs.Bytes.{is_name_byte}
+use Rattle.ct_base.specs.Bytes.{is_name_byte}
 use Rattle.ct_token.proofs.Longest.{longest_name}
 use Rattle.ct_token.proofs.scan.named_at.Goals as goal
 

@@ -1,7 +1,7 @@
 use Rattle.std.proofs.Common.{rules, arith, ap, ◌∙◌, ◌++◌, take, drop}
 use Rattle.std.proofs.lemmas.List.{nil_from_length}
 use Rattle.std.proofs.lemmas.List.Sums.{prefix_len-le-length}
-use Rattle.ct_token.specs.Bytes.{is_name_byte}
+use Rattle.ct_base.specs.Bytes.{is_name_byte}
 use Rattle.ct_token.proofs.Quoted.{longest_prefixed, prefix_unquoted, behind_name, alone_unquoted, name_unquoted}
 use Rattle.ct_token.proofs.scan.prefixed_at.Goals as goal
 

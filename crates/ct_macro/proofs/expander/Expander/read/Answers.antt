@@ -3,7 +3,7 @@ use Rattle.ct_macro_call.specs.declared.marked.Marked.{Marked}
 use Rattle.std.proofs.lemmas.List.{append-nil}
 use Rattle.ct_base.specs.declared.memory.Fail.TheVariants.{Fault}
 use Rattle.ct_macro.specs.declared.expander.Frame.{Frame}
-use Rattle.ct_macro.specs.Expansion.{Reads, replaced, fault_at}
+use Rattle.ct_macro.specs.Expansion.{IsReading, replaced, fault_at}
 use Rattle.ct_macro.specs.Machine.{weight_each}
 use Rattle.ct_macro.proofs.Weights.{reads_lighter}
 use Rattle.ct_macro.proofs.Steps.{on_ok, if_fault, fault_is, kept_reading, refused_reading, replaced_reading, comes_moved, kept_comes, refused_comes, replaced_comes}
@@ -69,9 +69,9 @@ returns-in_ok-put_front-in-Replaced-clause-goes c =
     let frame : Frame = record { call = c.in-Replaced.call; waiting = c.put_front.new.self; fulls = c.new.result; done = c.replace.result; rest = c.replace-in-Replaced.result } in
     let reads = replaced_reading c.args.macros.now c.args.first c.args.self.now.rest c.in_ok-token.field-0 c.read_token.new.rest c.in-Replaced.call c.in-Replaced.arguments c.in_ok-token.ensures.reading c.in-Replaced.is in
     let waiting : c.put_front.new.self ≡ c.in-Replaced.arguments = c.in_ok-put_front-in-Replaced.ensures ∙ ap (λ (l : List (List Marked)). c.in-Replaced.arguments ++ l) c.new-waiting.ensures ∙ append-nil c.in-Replaced.arguments in
-    let moved : Reads c.args.macros.now c.args.first c.args.self.now.rest (replaced frame.call frame.waiting frame.rest) =
-    subst (λ (w : List (List Marked)). Reads c.args.macros.now c.args.first c.args.self.now.rest (replaced c.in-Replaced.call w c.replace-in-Replaced.result)) (sym waiting)
-    (subst (λ (r : List Marked). Reads c.args.macros.now c.args.first c.args.self.now.rest (replaced c.in-Replaced.call c.in-Replaced.arguments r)) (sym c.replace-in-Replaced.ensures.value) reads) in
+    let moved : IsReading c.args.macros.now c.args.first c.args.self.now.rest (replaced frame.call frame.waiting frame.rest) =
+    subst (λ (w : List (List Marked)). IsReading c.args.macros.now c.args.first c.args.self.now.rest (replaced c.in-Replaced.call w c.replace-in-Replaced.result)) (sym waiting)
+    (subst (λ (r : List Marked). IsReading c.args.macros.now c.args.first c.args.self.now.rest (replaced c.in-Replaced.call c.in-Replaced.arguments r)) (sym c.replace-in-Replaced.ensures.value) reads) in
     on_ok _ _ c.go_on.result _ _ c.go_on.ensures.ok
     (λ goes before counted calls front rest outer comes.
     comes_moved c.args.macros.now c.args.room c.args.self.now.counted before.counted c.args.self.now.calls before.calls c.replace.result before.done (c.args.first ∷ c.args.self.now.rest) before.rest outer (sym counted) (sym calls) (c.replace.ensures.value ∙ sym front) (sym rest)
@@ -92,9 +92,9 @@ returns-in_ok-put_front-in-Replaced-clause-fault c =
     let frame : Frame = record { call = c.in-Replaced.call; waiting = c.put_front.new.self; fulls = c.new.result; done = c.replace.result; rest = c.replace-in-Replaced.result } in
     let reads = replaced_reading c.args.macros.now c.args.first c.args.self.now.rest c.in_ok-token.field-0 c.read_token.new.rest c.in-Replaced.call c.in-Replaced.arguments c.in_ok-token.ensures.reading c.in-Replaced.is in
     let waiting : c.put_front.new.self ≡ c.in-Replaced.arguments = c.in_ok-put_front-in-Replaced.ensures ∙ ap (λ (l : List (List Marked)). c.in-Replaced.arguments ++ l) c.new-waiting.ensures ∙ append-nil c.in-Replaced.arguments in
-    let moved : Reads c.args.macros.now c.args.first c.args.self.now.rest (replaced frame.call frame.waiting frame.rest) =
-    subst (λ (w : List (List Marked)). Reads c.args.macros.now c.args.first c.args.self.now.rest (replaced c.in-Replaced.call w c.replace-in-Replaced.result)) (sym waiting)
-    (subst (λ (r : List Marked). Reads c.args.macros.now c.args.first c.args.self.now.rest (replaced c.in-Replaced.call c.in-Replaced.arguments r)) (sym c.replace-in-Replaced.ensures.value) reads) in
+    let moved : IsReading c.args.macros.now c.args.first c.args.self.now.rest (replaced frame.call frame.waiting frame.rest) =
+    subst (λ (w : List (List Marked)). IsReading c.args.macros.now c.args.first c.args.self.now.rest (replaced c.in-Replaced.call w c.replace-in-Replaced.result)) (sym waiting)
+    (subst (λ (r : List Marked). IsReading c.args.macros.now c.args.first c.args.self.now.rest (replaced c.in-Replaced.call c.in-Replaced.arguments r)) (sym c.replace-in-Replaced.ensures.value) reads) in
     if_fault _ _ c.go_on.result _ _ c.go_on.ensures.fault
     (λ fault goes before counted calls front rest.
     comes_moved c.args.macros.now c.args.room c.args.self.now.counted before.counted c.args.self.now.calls before.calls c.replace.result before.done (c.args.first ∷ c.args.self.now.rest) before.rest _ (sym counted) (sym calls) (c.replace.ensures.value ∙ sym front) (sym rest)

@@ -13,7 +13,7 @@ use Rattle.ct_preproc.specs.Files as spec
 use Rattle.ct_preproc.specs.Steps as steps
 use Rattle.ct_directive.specs.Headers.{built_in_headers}
 use Rattle.ct_directive.specs.Lines.{lines_of}
-use Rattle.ct_preproc.specs.Reading.{Ends, IsLexed, fault_at, number_of, with_path}
+use Rattle.ct_preproc.specs.Reading.{Ends, IsLexed, fault_at, file_number, with_path}
 use Rattle.ct_directive.specs.Search.{Means}
 use Rattle.ct_preproc.proofs.ByGroups.{by_groups}
 use Rattle.ct_preproc.proofs.Choices.{on_map, on_next, on_same}
@@ -123,7 +123,7 @@ pub read-returns-in_err-tokens : goal.read-returns-in_err-tokens
 read-returns-in_err-tokens g t c =
     let enters = spec.Enters (g.F.Finder.texts c.args.self.now.search.finder.now) c.args.self.now.search.folders.now c.args.self.now.search.heads.now built_in_headers c.args.file.limit c.args.more in
     let place = c.args.file.place.now in
-    on_open c.from_residual.result c.in_err-tokens.field-0.0 (IsLexed place c.args.built_in (number_of place.path c.args.state.files) c.args.text.now)
+    on_open c.from_residual.result c.in_err-tokens.field-0.0 (IsLexed place c.args.built_in (file_number place.path c.args.state.files) c.args.text.now)
     (λ answer tokens. spec.ReadsLines c.args.file.limit enters place (spec.begins place c.args.state) (lines_of tokens) answer) (search rules) c.in_err-tokens.ensures.«open»
 
 pub acted-returns : goal.acted-returns
@@ -145,7 +145,7 @@ read-returns g t c =
     let tokens = c.in_ok-tokens.tokens.items in
     let lines : c.in_ok-lines.lines.items ≡ lines_of tokens = search rules in
     let reading : c.in_ok-reading.reading ≡ steps.begun place c.args.state = search rules in
-    on_next (IsLexed place c.args.built_in (number_of place.path c.args.state.files) c.args.text.now) tokens c.lines.result
+    on_next (IsLexed place c.args.built_in (file_number place.path c.args.state.files) c.args.text.now) tokens c.lines.result
     (λ tokens answer. spec.ReadsLines c.args.file.limit enters place (spec.begins place c.args.state) (lines_of tokens) answer) c.in_ok-tokens.ensures.tokens
     (on_map c.lines.result (steps.StepsLines c.args.file.limit enters place (steps.begun place c.args.state) (lines_of tokens))
     (spec.ReadsLines c.args.file.limit enters place (spec.begins place c.args.state) (lines_of tokens))

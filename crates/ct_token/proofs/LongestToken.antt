@@ -5,9 +5,10 @@ use Rattle.std.proofs.lemmas.List.Elements.{All-nil}
 use Rattle.std.proofs.lemmas.Bool.{cases_Bool, cases_eq, eqb-true, or_from, not_from_false}
 use Rattle.ct_base.specs.declared.lexical.TokenKind.{TokenKind}
 use Rattle.ct_base.specs.declared.lexical.TokenKind.TheVariants.{Name, Number, Char, Text, Punct, Other, Line}
-use Rattle.ct_token.specs.Bytes.{is_digit, is_nondigit, is_name_byte, is_newline, is_blank}
+use Rattle.ct_base.specs.Bytes.{is_digit, is_nondigit, is_name_byte}
+use Rattle.ct_token.specs.Bytes.{is_newline, is_blank}
 use Rattle.ct_token.specs.Lexing.{is_punctuator, is_other, is_number, is_inside, is_prefix, IsQuoted, IsToken, IsLongest}
-use Rattle.ct_answers.proofs.Decided.{Decided, test_decided, same_decided, both_decided, all_decided, Cuts, cut_decided, Longest, longest_front, NoFront}
+use Rattle.ct_token.proofs.Decided.{Decided, test_decided, same_decided, both_decided, all_decided, Cuts, cut_decided, Longest, longest_front, NoFront}
 
 -- ---- names
 

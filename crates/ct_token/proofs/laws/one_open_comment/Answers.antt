@@ -1,5 +1,5 @@
 use Rattle.ct_token.proofs.Unique.{same_open, open_or_closed}
-use Rattle.ct_token.proofs.one_open_comment.Goals as goal
+use Rattle.ct_token.proofs.laws.one_open_comment.Goals as goal
 
 pub returns-clause-one : goal.returns-clause-one
 returns-clause-one c = same_open

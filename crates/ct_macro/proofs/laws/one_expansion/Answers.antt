@@ -3,7 +3,7 @@ use Rattle.std.specs.Prelude.{map}
 use Rattle.ct_macro_call.specs.declared.marked.Marked.{Marked}
 use Rattle.ct_macro.specs.Expansion.{done, stopped}
 use Rattle.ct_macro.proofs.Unique.{expands_one}
-use Rattle.ct_macro.proofs.expanding.one_expansion.Goals as goal
+use Rattle.ct_macro.proofs.laws.one_expansion.Goals as goal
 
 pub returns-clause-one : goal.returns-clause-one
 returns-clause-one c =

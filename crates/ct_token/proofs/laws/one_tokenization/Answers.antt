@@ -1,5 +1,5 @@
 use Rattle.ct_token.proofs.Unique.{same_tokens}
-use Rattle.ct_token.proofs.one_tokenization.Goals as goal
+use Rattle.ct_token.proofs.laws.one_tokenization.Goals as goal
 
 pub returns : goal.returns
 returns c = same_tokens

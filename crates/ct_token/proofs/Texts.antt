@@ -1,21 +1,17 @@
--- Each text has tokens or leaves a comment open, so it is one token of some kind or of none.
+-- Each text has tokens or leaves a comment open.
 use Rattle.std.proofs.Common.{◌≡◌, ℕ, suc, zero, ◌+◌, ◌<◌, true, false, List, [], ◌∷◌, ◌++◌, length, drop, refl, sym, ap, ◌∙◌, subst, arith, ◌⊎◌, inl, inr, length-append, Option, Some, None}
 use Rattle.std.specs.Prelude.{All, IsTrue, slice_index, ◌==◌, ◌||◌}
 use Rattle.std.proofs.lemmas.List.{take-append-drop}
 use Rattle.std.proofs.lemmas.List.Elements.{All-nil, All-cons}
 use Rattle.std.proofs.lemmas.Bool.{cases_Bool, false≢true, eqb-true, and_parts, or_cases}
 use Rattle.ct_base.specs.declared.lexical.Token.{Token}
-use Rattle.ct_base.specs.declared.lexical.TokenKind.{TokenKind}
 use Rattle.ct_token.specs.Bytes.{is_newline, is_blank}
 use Rattle.ct_token.specs.Lines.{joined_bytes, joined_lines}
 use Rattle.ct_token.specs.Lexing.{begins_comment, ends_line, Piece, Blank, BlockComment, LineComment, Word, bytes_of, IsPiece, spelled, ArePieces, tokens_of, IsTokenization, LeavesOpen}
 use Rattle.ct_token.proofs.Comments.{closing_behind, closed_at, not_closed}
 use Rattle.ct_token.proofs.Telling.{starts}
-use Rattle.ct_token.proofs.Unique.{IsEnd, same_tokens, open_or_closed}
-use Rattle.ct_macro_call.specs.Spelled.{IsOneToken}
-use Rattle.ct_answers.proofs.Decided.{same_decided}
-use Rattle.ct_answers.proofs.Longest.{longest_token}
-use Rattle.ct_answers.proofs.Puts.{SomeOrNone, EachIsOne}
+use Rattle.ct_token.proofs.Unique.{IsEnd}
+use Rattle.ct_token.proofs.LongestToken.{longest_token}
 
 -- ---- the piece at a place
 
@@ -139,27 +135,3 @@ text_answers file text = by_end (pieces_within (suc (length (joined_bytes text))
 
     by_end : Pieces (joined_bytes text) → Answers file text
     by_end found = at_end found found.end
-
--- ---- one token
-
-pub text_is_one : EachIsOne
-text_is_one text = by_answer (text_answers 0 text)
-  where
-    by_tokens : (tokens : List Token) → IsTokenization 0 text tokens → SomeOrNone TokenKind (IsOneToken text)
-    by_tokens [] all = inr (λ kind one. absurd (let bad : [] ≡ one.0 ∷ [] = same_tokens 0 text [] (one.0 ∷ []) all one.1 in cc))
-    by_tokens (token ∷ []) all =
-        elim (same_decided token.text text) [
-          | inl same ↦ inl (token.kind, (token, all, same, refl))
-          | inr fails ↦ inr (λ kind one.
-              let whole : token ∷ [] ≡ one.0 ∷ [] = same_tokens 0 text (token ∷ []) (one.0 ∷ []) all one.1 in
-              let head : token ≡ one.0 = cc in
-              fails (ap (λ (t : Token). t.text) head ∙ one.2))
-        ]
-    by_tokens (token ∷ next ∷ tokens) all =
-        inr (λ kind one. absurd (
-        let whole : token ∷ next ∷ tokens ≡ one.0 ∷ [] = same_tokens 0 text (token ∷ next ∷ tokens) (one.0 ∷ []) all one.1 in
-        let tail : next ∷ tokens ≡ [] = cc in cc))
-
-    by_answer : Answers 0 text → SomeOrNone TokenKind (IsOneToken text)
-    by_answer (inl found) = by_tokens found.0 found.1
-    by_answer (inr opened) = inr (λ kind one. open_or_closed 0 text (one.0 ∷ []) opened.0 one.1 opened.1)

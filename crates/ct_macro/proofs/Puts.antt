@@ -6,7 +6,7 @@ use Rattle.ct_macro_call.specs.declared.marked.Marked.{Marked}
 use Rattle.ct_macro_call.specs.declared.call.Operand.{Operand}
 use Rattle.ct_macro_call.specs.declared.call.Call.{Call}
 use Rattle.ct_macro_call.specs.Spelled.{IsOneToken, PastesTexts, Pastes, Joins, respaced}
-use Rattle.ct_macro_call.specs.Substitution.{Puts, IsPut, placed, dressed, has_bytes, tokens_at}
+use Rattle.ct_macro_call.specs.Substitution.{Puts, IsReplacement, placed, dressed, has_bytes, tokens_at}
 use Rattle.ct_macro_call.proofs.Pasting.{OneTokenization, pasted_of, not_joined}
 use Rattle.ct_macro_call.proofs.Collecting.{nil_split}
 use Rattle.ct_macro_call.proofs.Substituting.{one_joint}
@@ -73,7 +73,7 @@ module _ (tells : EachIsOne) (law : OneTokenization) where
             | inr none ↦ inr (λ put is. none is.0 is.1)
           ]
 
-  pub call_puts : (call : Call) (fulls : List (List Marked)) → SomeOrNone (List Marked) (λ put. IsPut call fulls put)
+  pub call_puts : (call : Call) (fulls : List (List Marked)) → SomeOrNone (List Marked) (λ put. IsReplacement call fulls put)
   call_puts call fulls =
       elim (body_puts (tokens_at call.names call.raws fulls) call.body []) [
         | inl one ↦ inl (placed call.name.token (map (dressed call) (filter has_bytes one.0)), record { tokens = one.0; puts = one.1; put_is = refl })

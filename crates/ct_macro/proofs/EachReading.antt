@@ -8,7 +8,7 @@ use Rattle.ct_macro_call.specs.declared.marked.Marked.{Marked}
 use Rattle.ct_macro_call.specs.Calls.{opens, closes, IsLevel, NoneAtLevel, closes_call, separates, MaySeparate, fewer, AreArguments, separators, arguments_for}
 use Rattle.ct_macro_call.proofs.Collecting.{none_more, nil_split}
 use Rattle.ct_macro.specs.declared.faults.MacroKind.TheVariants.{OpenCall}
-use Rattle.ct_macro.specs.Expansion.{Use, stays, object, opened, use_of, Reading, kept, refused, reading_of_object, reading_of_call, ReadsUse, Reads}
+use Rattle.ct_macro.specs.Expansion.{Use, stays, object, opened, use_of, Reading, kept, refused, reading_of_object, reading_of_call, ReadsUse, IsReading}
 
 -- ---- the first token of a kind outside inner parentheses
 
@@ -99,5 +99,5 @@ use_reads first rest (opened place m names behind) = by_close (first_of closes_c
           },
         )
 
-pub token_reads : (macros : List Macro) (first : Marked) (rest : List Marked) → (reading : Reading) × Reads macros first rest reading
+pub token_reads : (macros : List Macro) (first : Marked) (rest : List Marked) → (reading : Reading) × IsReading macros first rest reading
 token_reads macros first rest = use_reads first rest (use_of macros first rest)

@@ -7,34 +7,34 @@ use Rattle.ct_base.specs.declared.lexical.Token.{Token}
 use Rattle.ct_macro_call.specs.declared.definition.Macro.{Macro}
 use Rattle.ct_macro_call.specs.declared.marked.Marked.{Marked}
 use Rattle.ct_macro_call.specs.declared.call.Call.{Call}
-use Rattle.ct_macro_call.specs.Substitution.{IsPut}
+use Rattle.ct_macro_call.specs.Substitution.{IsReplacement}
 use Rattle.ct_macro.specs.declared.faults.MacroFault.{MacroFault}
 use Rattle.ct_macro.specs.declared.faults.MacroKind.TheVariants.{BadPaste, TooLong}
-use Rattle.ct_macro.specs.Expansion.{Reading, kept, refused, replaced, Reads, Outcome, done, stopped, fault_at, led_by, Expands, nothing, keeps, refuses, replaces, ExpandsEach, none, each, ends, Continues, stops, unpasted, passes, again, unbroken, IsExpansion, IsRefusal}
+use Rattle.ct_macro.specs.Expansion.{Reading, kept, refused, replaced, IsReading, ExpansionOutcome, done, stopped, fault_at, led_by, Expands, nothing, keeps, refuses, replaces, ExpandsEach, none, each, ends, Continues, stops, unpasted, passes, again, unbroken, IsExpansion, IsRefusal}
 use Rattle.ct_macro.specs.Machine.{weight_each}
 use Rattle.ct_macro.proofs.Weights.{reads_lighter}
-use Rattle.ct_answers.proofs.Readings.{token_reads}
-use Rattle.ct_answers.proofs.Puts.{SomeOrNone}
+use Rattle.ct_macro.proofs.EachReading.{token_reads}
+use Rattle.ct_macro.proofs.Puts.{SomeOrNone}
 
 -- as many were put as before, or more
-abbrev pub Grows : {A : Type 0} → ℕ → Outcome A → Type 0
+abbrev pub Grows : {A : Type 0} → ℕ → ExpansionOutcome A → Type 0
 Grows counted (done tokens later) = counted ≤ later
 Grows counted (stopped fault) = Unit {0}
 
-led_grows : {A : Type 0} (counted later : ℕ) (first : A) (outcome : Outcome (List A)) → counted ≤ later → Grows later outcome → Grows counted (led_by first outcome)
+led_grows : {A : Type 0} (counted later : ℕ) (first : A) (outcome : ExpansionOutcome (List A)) → counted ≤ later → Grows later outcome → Grows counted (led_by first outcome)
 led_grows counted later first (done rest last) more grows = omega arith
 led_grows counted later first (stopped fault) more grows = tt
 
-module _ (macros : List Macro) (room : ℕ) (puts : (call : Call) (fulls : List (List Marked)) → SomeOrNone (List Marked) (λ put. IsPut call fulls put)) where
+module _ (macros : List Macro) (room : ℕ) (puts : (call : Call) (fulls : List (List Marked)) → SomeOrNone (List Marked) (λ put. IsReplacement call fulls put)) where
   -- what a list becomes
   abbrev pub Comes : ℕ → List Marked → Type 0
-  Comes counted tokens = (outcome : Outcome (List Marked)) × Expands macros room counted tokens outcome × Grows counted outcome
+  Comes counted tokens = (outcome : ExpansionOutcome (List Marked)) × Expands macros room counted tokens outcome × Grows counted outcome
 
   abbrev pub EachComes : ℕ → List (List Marked) → Type 0
-  EachComes counted lists = (outcome : Outcome (List (List Marked))) × ExpandsEach macros room counted lists outcome × Grows counted outcome
+  EachComes counted lists = (outcome : ExpansionOutcome (List (List Marked))) × ExpandsEach macros room counted lists outcome × Grows counted outcome
 
-  abbrev pub Goes : ℕ → Call → List Marked → Outcome (List (List Marked)) → Type 0
-  Goes counted call after fulls = (outcome : Outcome (List Marked)) × Continues macros room call after fulls outcome × Grows counted outcome
+  abbrev pub Goes : ℕ → Call → List Marked → ExpansionOutcome (List (List Marked)) → Type 0
+  Goes counted call after fulls = (outcome : ExpansionOutcome (List Marked)) × Continues macros room call after fulls outcome × Grows counted outcome
 
   -- lists of less than this weight become something
   abbrev pub ComesBelow : ℕ → Type 0
@@ -46,7 +46,7 @@ module _ (macros : List Macro) (room : ℕ) (puts : (call : Call) (fulls : List 
       let one = below counted first (omega arith) in
       by_first one.0 one.1 one.2 (λ later within. each_comes fuel below rest later within)
     where
-      by_first : (outcome : Outcome (List Marked)) → Expands macros room counted first outcome → Grows counted outcome
+      by_first : (outcome : ExpansionOutcome (List Marked)) → Expands macros room counted first outcome → Grows counted outcome
           → ((later : ℕ) → 2 * (room - later) + weight_each rest ≤ fuel → EachComes later rest) → EachComes counted (first ∷ rest)
       by_first (done tokens later) expands grows behind =
           let more = behind later (omega arith) in
@@ -54,21 +54,21 @@ module _ (macros : List Macro) (room : ℕ) (puts : (call : Call) (fulls : List 
       by_first (stopped fault) expands grows behind = (stopped fault, ends expands, tt)
 
   goes : (fuel counted : ℕ) → ComesBelow fuel → (call : Call) (after : List Marked) → 2 * (room - counted) + length after < fuel
-      → (fulls : Outcome (List (List Marked))) → Grows counted fulls → Goes counted call after fulls
+      → (fulls : ExpansionOutcome (List (List Marked))) → Grows counted fulls → Goes counted call after fulls
   goes fuel counted below call after within (stopped fault) grows = (stopped fault, stops, tt)
   goes fuel counted below call after within (done fulls later) grows = by_put (puts call fulls)
     where
-      by_room : (put : List Marked) → IsPut call fulls put → ((room < later + length put) ⊎ (later + length put ≤ room)) → Goes counted call after (done fulls later)
+      by_room : (put : List Marked) → IsReplacement call fulls put → ((room < later + length put) ⊎ (later + length put ≤ room)) → Goes counted call after (done fulls later)
       by_room put is (inl far) = (stopped (fault_at TooLong call.name), passes is far, tt)
       by_room put is (inr fits) =
           let rest = below (later + length put) (put ++ after) (omega (arith, length-append put after)) in
           (rest.0, again is fits rest.1, by_outcome rest.0 rest.2)
         where
-          by_outcome : (outcome : Outcome (List Marked)) → Grows (later + length put) outcome → Grows counted outcome
+          by_outcome : (outcome : ExpansionOutcome (List Marked)) → Grows (later + length put) outcome → Grows counted outcome
           by_outcome (done tokens last) more = omega arith
           by_outcome (stopped fault) more = tt
 
-      by_put : SomeOrNone (List Marked) (λ put. IsPut call fulls put) → Goes counted call after (done fulls later)
+      by_put : SomeOrNone (List Marked) (λ put. IsReplacement call fulls put) → Goes counted call after (done fulls later)
       by_put (inr not) = (stopped (fault_at BadPaste call.name), unpasted not, tt)
       by_put (inl one) = by_room one.0 one.1 (cases_lt room (later + length one.0))
 
@@ -79,7 +79,7 @@ module _ (macros : List Macro) (room : ℕ) (puts : (call : Call) (fulls : List 
       let read = token_reads macros first rest in
       by_reading read.0 read.1 (λ counted tokens within. comes_below fuel counted tokens within)
     where
-      by_reading : (reading : Reading) → Reads macros first rest reading → ComesBelow fuel → Comes counted (first ∷ rest)
+      by_reading : (reading : Reading) → IsReading macros first rest reading → ComesBelow fuel → Comes counted (first ∷ rest)
       by_reading kept reads below =
           let more = below counted rest (omega arith) in
           (led_by first more.0, keeps reads more.1, led_grows counted counted first more.0 (omega arith) more.2)
@@ -97,7 +97,7 @@ module _ (macros : List Macro) (room : ℕ) (puts : (call : Call) (fulls : List 
       → ((expanded : List Token) × (counted : ℕ) × IsExpansion macros tokens room expanded counted) ⊎ ((fault : MacroFault) × IsRefusal macros tokens room fault)
   list_comes tokens = let all = comes (unbroken false tokens) in by_outcome all.0 all.1
     where
-      by_outcome : (outcome : Outcome (List Marked)) → Expands macros room 0 (unbroken false tokens) outcome
+      by_outcome : (outcome : ExpansionOutcome (List Marked)) → Expands macros room 0 (unbroken false tokens) outcome
           → ((expanded : List Token) × (counted : ℕ) × IsExpansion macros tokens room expanded counted) ⊎ ((fault : MacroFault) × IsRefusal macros tokens room fault)
       by_outcome (done marked counted) expands = inl (map (λ (m : Marked). m.token) marked, counted, (marked, expands, refl))
       by_outcome (stopped fault) expands = inr (fault, expands)
