@@ -284,7 +284,7 @@ fn no_name(
             alloc,
             state,
             purpose,
-            parts::nameless(alloc, at),
+            parts::nameless(alloc, at)?,
             terminal,
             at,
         ),

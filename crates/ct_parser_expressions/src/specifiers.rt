@@ -449,7 +449,7 @@ pub fn opened(
             alloc,
             state,
             purpose,
-            parts::nameless(alloc, at),
+            parts::nameless(alloc, at)?,
             terminal,
             token,
         );

@@ -89,7 +89,7 @@ pub enum ClauseFrame {
     /// The ladder of the branches before, and the `if` whose test is read.
     Test(Span, Built<Vec<Branch>>, Span),
     LoopTest(Span),
-    DoTest(Span, Built<Statement>),
+    DoTest(Span, Built<Box<Statement>>),
     SwitchTest(Span),
     ForInit(Span),
     ForCondition(Span, Built<ForStart>),
@@ -159,7 +159,7 @@ pub enum Aim {
     /// The test of an `if`: the ladder of the branches before, and the `if`.
     Test(Span, Built<Vec<Branch>>, Span),
     Loop(Span),
-    Do(Span, Built<Statement>),
+    Do(Span, Built<Box<Statement>>),
     Switch(Span),
     Assert(Span),
 }
@@ -265,9 +265,9 @@ pub enum StatementMode {
     /// A statement, or what else may stand in its place.
     Begin,
     /// A statement is read.
-    Done(Built<Statement>),
+    Done(Built<Box<Statement>>),
     /// A semicolon ends the statement.
-    Ending(Built<Statement>),
+    Ending(Built<Box<Statement>>),
     /// What stands behind the `else` of a ladder.
     AfterElse(Span, Built<Vec<Branch>>),
     Returning(Span),

@@ -58,8 +58,8 @@ fn ladder(
     before: Built<Vec<Branch>>,
     place: Span,
     test: ExprPart,
-    done: Built<Statement>,
-) -> Mem<Built<Statement>>
+    done: Built<Box<Statement>>,
+) -> Mem<Built<Box<Statement>>>
     ensures { IfOk result (λ p. statement_part p ≡ parts_built.if_else (parts_built.push_branch (branches_part before) (expr_of test) (statement_part done)) None) }
 {
     let branches = parts::push_branch(before, place, test, done)?;
@@ -71,8 +71,8 @@ fn whole(
     alloc: Global,
     state: &mut ParserState,
     frame: StatementFrame,
-    done: Built<Statement>,
-) -> Mem<Built<Statement>>
+    done: Built<Box<Statement>>,
+) -> Mem<Built<Box<Statement>>>
     requires { IsTrue (spec_ended (statement_frame frame)) }
     ensures ended { IfOk result (λ p. m.ended parts_built (scope state.old) (under state.old (statement_frame frame)) (statement_part done) ≡ m.ended parts_built (scope state.new) (stack state.new) (statement_part p)) }
     ensures closed { IfOk result (λ p. IsTrue (spec_closed (statement_frame frame)) → m.on_else parts_built (scope state.old) (under state.old (statement_frame frame)) (statement_part done) ≡ m.on_else parts_built (scope state.new) (stack state.new) (statement_part p)) }
@@ -97,8 +97,8 @@ fn whole_in(
     alloc: Global,
     state: &mut ParserState,
     frame: Frame,
-    done: Built<Statement>,
-) -> Mem<Built<Statement>>
+    done: Built<Box<Statement>>,
+) -> Mem<Built<Box<Statement>>>
     requires { IsTrue (spec_ended frame) }
     ensures ended { IfOk result (λ p. m.ended parts_built (scope state.old) (under state.old frame) (statement_part done) ≡ m.ended parts_built (scope state.new) (stack state.new) (statement_part p)) }
     ensures closed { IfOk result (λ p. IsTrue (spec_closed frame) → m.on_else parts_built (scope state.old) (under state.old frame) (statement_part done) ≡ m.on_else parts_built (scope state.new) (stack state.new) (statement_part p)) }
@@ -112,7 +112,7 @@ fn whole_in(
 
 /// Ends the statements that no word of their own ends, up to braces or a `do`.
 #[tactic(auto, using(crate::proofs::Ends::ended_none, crate::proofs::Ends::ended_stops))]
-fn ended(alloc: Global, state: &mut ParserState, done: Built<Statement>) -> Mem<Built<Statement>>
+fn ended(alloc: Global, state: &mut ParserState, done: Built<Box<Statement>>) -> Mem<Built<Box<Statement>>>
     ensures { IfOk result (λ p. m.ended parts_built (scope state.old) (stack state.old) (statement_part done) ≡ (scope state.new, stack state.new, statement_part p)) }
 {
     let mut done = done;
@@ -128,7 +128,7 @@ fn ended(alloc: Global, state: &mut ParserState, done: Built<Statement>) -> Mem<
 
 /// An `else` behind the last part of a production that it does not end: that of an open `if`.
 #[tactic(auto, using(std::proofs::lemmas::Grind::common_steps))]
-fn else_in(state: &ParserState, frame: Frame, done: Built<Statement>) -> Mem<Option<Mode>>
+fn else_in(state: &ParserState, frame: Frame, done: Built<Box<Statement>>) -> Mem<Option<Mode>>
     requires { spec_closed frame ≡ false }
     ensures { IfOk result (λ r. Stepped state.now r (m.on_else parts_built (scope state.now) (under state.now frame) (statement_part done))) }
 {
@@ -142,7 +142,7 @@ fn else_in(state: &ParserState, frame: Frame, done: Built<Statement>) -> Mem<Opt
 }
 
 /// Ends the statements up to the nearest open `if`.
-fn on_else(alloc: Global, state: &mut ParserState, done: Built<Statement>) -> Mem<Option<Mode>>
+fn on_else(alloc: Global, state: &mut ParserState, done: Built<Box<Statement>>) -> Mem<Option<Mode>>
     ensures { IfOk result (λ r. Stepped state.new r (m.on_else parts_built (scope state.old) (stack state.old) (statement_part done))) }
 {
     let mut done = done;
@@ -156,7 +156,7 @@ fn on_else(alloc: Global, state: &mut ParserState, done: Built<Statement>) -> Me
 }
 
 /// A body with a statement more, unless none stands there.
-fn with_stated(body: BodyFrame, done: Built<Statement>) -> Mem<Option<BodyFrame>>
+fn with_stated(body: BodyFrame, done: Built<Box<Statement>>) -> Mem<Option<BodyFrame>>
     ensures next { IfOk result (λ o. MatchOption o
         ((os : List Entry) (sc : Scope) (s : PartStack) (w : Word) → m.next_in parts_built (sc, body_in os body ∷ s, statement_part done) w ≡ None)
         (λ more. (os : List Entry) (sc : Scope) (s : PartStack) (w : Word) → m.next_in parts_built (sc, body_in os body ∷ s, statement_part done) w ≡ m.begin_part parts_built sc (body_in os more ∷ s) w)) }
@@ -183,7 +183,7 @@ fn stated_in(
     alloc: Global,
     state: &mut ParserState,
     body: BodyFrame,
-    done: Built<Statement>,
+    done: Built<Box<Statement>>,
     terminal: Terminal,
     token: &Token,
 ) -> Mem<Option<Mode>>
@@ -200,7 +200,7 @@ fn stated_in(
 fn next_in(
     alloc: Global,
     state: &mut ParserState,
-    done: Built<Statement>,
+    done: Built<Box<Statement>>,
     terminal: Terminal,
     token: &Token,
 ) -> Mem<Option<Mode>>
@@ -225,7 +225,7 @@ fn next_in(
 fn behind_statement(
     alloc: Global,
     state: &mut ParserState,
-    done: Built<Statement>,
+    done: Built<Box<Statement>>,
     terminal: Terminal,
     token: &Token,
 ) -> Mem<Option<Mode>>
@@ -239,7 +239,7 @@ fn behind_statement(
 }
 
 /// A token where the semicolon of a statement is wanted.
-fn ending(state: &mut ParserState, done: Built<Statement>, terminal: Terminal) -> Mem<Option<Mode>>
+fn ending(state: &mut ParserState, done: Built<Box<Statement>>, terminal: Terminal) -> Mem<Option<Mode>>
     ensures { IfOk result (λ r. (text : Text) → Stepped state.new r (m.ending parts_built (scope state.old) (stack state.old) (statement_part done) (word_of terminal text))) }
 {
     if !matches!(terminal, Terminal::Mark(Mark::Semicolon)) {
