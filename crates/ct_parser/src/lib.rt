@@ -5,6 +5,7 @@ mod items;
 mod laws;
 mod reader;
 
+pub use ct_grammar_laws::one_tree;
 pub use ct_left_out::{one_first, unsupported};
-pub use laws::{no_tree, one_tree, one_unspelled};
+pub use laws::{no_tree, one_unspelled};
 pub use reader::{SyntaxFault, parse};
