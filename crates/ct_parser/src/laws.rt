@@ -2,15 +2,10 @@
 
 ghost use Rattle.std.specs.Prelude.{◌≡◌, ℕ, List, ◌++◌, ◌∷◌};
 ghost use Rattle.ct_base.specs.declared.lexical.Token.{Token};
-ghost use Rattle.ct_syntax.specs.Words.{Word, words};
+ghost use Rattle.ct_syntax.specs.Words.{words};
 ghost use Rattle.ct_syntax.specs.Trees.{Item};
 ghost use Rattle.ct_syntax.specs.Units.{SpellsUnit, Unspelled};
 ghost use Rattle.ct_parser.specs.Unsupported.{IsFirst};
-
-/// At most one tree, apart from places, spells a list of words.
-pub fn one_tree()
-    ensures { (ws : List Word) (is js : List Item) → SpellsUnit is ws → SpellsUnit js ws → is ≡ js }
-{}
 
 /// Where a declaration that no tree spells begins, no tree spells the whole.
 pub fn no_tree()

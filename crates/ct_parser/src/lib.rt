@@ -6,6 +6,7 @@ mod laws;
 mod left_out;
 mod reader;
 
-pub use laws::{no_tree, one_first, one_tree, one_unspelled};
+pub use ct_grammar_laws::one_tree;
+pub use laws::{no_tree, one_first, one_unspelled};
 pub use left_out::unsupported;
 pub use reader::{SyntaxFault, parse};

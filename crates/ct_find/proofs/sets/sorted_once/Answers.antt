@@ -11,5 +11,5 @@ pub returns : goal.returns
 returns c =
     IfOk-weaker c.as_texts.result _ _
     (λ texts is. subst (λ ps. AreSorted (Contains (texts_of c.args.paths.items)) ps) (sym is)
-        (sorted_set c.args.paths.items c.sort.new.self.items c.dedup.new.self.items c.in_ok-sort.ensures.sorted c.in_ok-sort.ensures.permutation (dedup_is _ _ _ c.dedup.ensures.filtered)))
+    (sorted_set c.args.paths.items c.sort.new.self.items c.dedup.new.self.items c.in_ok-sort.ensures.sorted c.in_ok-sort.ensures.permutation (dedup_is _ _ _ c.dedup.ensures.filtered)))
     c.as_texts.ensures
