@@ -7,9 +7,7 @@ ghost use Rattle.ct_base.specs.declared.lexical.TokenKind.TheVariants.{Name as s
 ghost use Rattle.ct_parser_state.specs.Terminals.{word_of};
 
 use ct_base::{BinaryOp, Token, TokenKind};
-use ct_syntax::{
-    AssignOp, InfixOp, Keyword, Mark, MemberOp, SpecWord, StepOp, is_left_out_word,
-};
+use ct_syntax::{AssignOp, InfixOp, Keyword, Mark, MemberOp, SpecWord, StepOp, is_left_out_word};
 
 /// What a token is for the grammar. The text of a name, a constant or a string literal stays with the token.
 #[derive(Clone, Copy, Debug, PartialEq, Eq)]

@@ -112,7 +112,11 @@ fn whole_in(
 
 /// Ends the statements that no word of their own ends, up to braces or a `do`.
 #[tactic(auto, using(crate::proofs::Ends::ended_none, crate::proofs::Ends::ended_stops))]
-fn ended(alloc: Global, state: &mut ParserState, done: Built<Box<Statement>>) -> Mem<Built<Box<Statement>>>
+fn ended(
+    alloc: Global,
+    state: &mut ParserState,
+    done: Built<Box<Statement>>,
+) -> Mem<Built<Box<Statement>>>
     ensures { IfOk result (λ p. m.ended parts_built (scope state.old) (stack state.old) (statement_part done) ≡ (scope state.new, stack state.new, statement_part p)) }
 {
     let mut done = done;
@@ -239,7 +243,11 @@ fn behind_statement(
 }
 
 /// A token where the semicolon of a statement is wanted.
-fn ending(state: &mut ParserState, done: Built<Box<Statement>>, terminal: Terminal) -> Mem<Option<Mode>>
+fn ending(
+    state: &mut ParserState,
+    done: Built<Box<Statement>>,
+    terminal: Terminal,
+) -> Mem<Option<Mode>>
     ensures { IfOk result (λ r. (text : Text) → Stepped state.new r (m.ending parts_built (scope state.old) (stack state.old) (statement_part done) (word_of terminal text))) }
 {
     if !matches!(terminal, Terminal::Mark(Mark::Semicolon)) {
