@@ -1,7 +1,7 @@
 #!/usr/bin/env python3
 """Compares layouts, conversions, promotions and arithmetic of integers with those of compiled C.
 
-It makes 2,000 different questions for `crates/ct_numbers`: all promotions, the common kinds of all pairs, and drawn ones on
+It makes 2,000 different questions for `crates/ct_show`: all promotions, the common kinds of all pairs, and drawn ones on
 conversions, operators and layouts of structs, also within one another. gcc compiles the same expressions and structs, which
 print what they come to. Where an operator has a fault here, C leaves its value open: such questions come on top, and for
 them the rule of C11 6.5 is computed on whole numbers instead. It prints how many of both agree, and ends with status 1
@@ -154,23 +154,33 @@ def by_gcc(gcc, work, codes):
     return subprocess.run([program], check=True, capture_output=True, text=True).stdout.splitlines()
 
 
+def answers(program, work, asked):
+    """What `ct_show` answers to the questions, layouts apart from the others, each behind its question."""
+    found = {}
+    for subject in ("integers", "layouts"):
+        path = os.path.join(work, subject + ".txt")
+        mine = [it for it in asked if it.startswith("layout ") == (subject == "layouts")]
+        with open(path, "w") as file:
+            file.write("".join(f"== {it}\n" for it in mine))
+        shown = subprocess.run([program, "show", subject, path], check=True, capture_output=True, text=True).stdout
+        found.update(zip(mine, shown.splitlines()))
+    return [found[it] for it in asked]
+
+
 def main():
     gcc = shutil.which("gcc")
     if gcc is None:
         print("no gcc is here: nothing was compared")
         return 0
-    folder = os.path.join(os.path.dirname(os.path.dirname(os.path.abspath(__file__))), "crates", "ct_numbers")
+    folder = os.path.join(os.path.dirname(os.path.dirname(os.path.abspath(__file__))), "crates", "ct_show")
     subprocess.run(["rt", "run"], cwd=folder, check=True, stdin=subprocess.DEVNULL, capture_output=True)
     rand = random.Random(20251201)
     cases = questions(rand)
     with tempfile.TemporaryDirectory() as work:
         printed = iter(by_gcc(gcc, work, [code for _, code, _ in cases if code]))
         wanted = [next(printed) if code else answer for _, code, answer in cases]
-        path = os.path.join(work, "questions.txt")
-        with open(path, "w") as file:
-            file.write("".join(asked + "\n" for asked, _, _ in cases))
-        program = os.path.join(folder, "out", "ct_numbers")
-        lines = subprocess.run([program, path], check=True, capture_output=True, text=True).stdout.splitlines()
+        program = os.path.join(folder, "out", "ct_show")
+        lines = answers(program, work, [asked for asked, _, _ in cases])
     agree = {True: 0, False: 0}
     for line, (asked, code, _), answer in zip(lines, cases, wanted):
         if line == f"{asked}: {answer}":
