@@ -21,11 +21,11 @@ rank UnsignedLongLong = 5
 
 -- the first kind holds each number of the second
 abbrev pub holds_all : IntKind → IntKind → Bool
-holds_all wide k = int_le (least wide) (least k) && int_le (greatest k) (greatest wide)
+holds_all wide kind = int_le (least wide) (least kind) && int_le (greatest kind) (greatest wide)
 
 -- the integer promotions (6.3.1.1p2)
 abbrev pub promoted : IntKind → IntKind
-promoted k = if nat_le (rank k) (rank Int) then (if holds_all Int k then Int else UnsignedInt) else k
+promoted kind = if nat_le (rank kind) (rank Int) then (if holds_all Int kind then Int else UnsignedInt) else kind
 
 -- the unsigned kind that corresponds to a signed one (6.2.5p6), and of an unsigned one itself
 abbrev pub unsigned_of : IntKind → IntKind
@@ -50,14 +50,14 @@ balanced_signs signed unsigned =
 
 -- of two promoted kinds: that of the greater rank, where both are signed or both unsigned
 abbrev pub balanced : IntKind → IntKind → IntKind
-balanced a b =
-    if is_signed a
-    then (if is_signed b then (if nat_lt (rank a) (rank b) then b else a) else balanced_signs a b)
-    else (if is_signed b then balanced_signs b a else (if nat_lt (rank a) (rank b) then b else a))
+balanced first second =
+    if is_signed first
+    then (if is_signed second then (if nat_lt (rank first) (rank second) then second else first) else balanced_signs first second)
+    else (if is_signed second then balanced_signs second first else (if nat_lt (rank first) (rank second) then second else first))
 
 -- the usual arithmetic conversions (6.3.1.8p1)
 abbrev pub common_kind : IntKind → IntKind → IntKind
-common_kind a b = balanced (promoted a) (promoted b)
+common_kind first second = balanced (promoted first) (promoted second)
 
 -- 0 for 0, and 1 for every other number
 abbrev pub truth_of : ℤ → ℤ
@@ -68,5 +68,5 @@ truth_of (negsuc n) = pos 1
 -- to `_Bool` by 6.3.1.2, to another kind by 6.3.1.3: a number in its range stays, an unsigned kind takes any other one
 -- modulo 2 ^ width, and a signed kind keeps its low bits, which is the target's choice (6.3.1.3p3)
 abbrev pub converted : ℤ → IntKind → ℤ
-converted v Boolean = truth_of v
-converted v k = wrapped k v
+converted number Boolean = truth_of number
+converted number kind = wrapped kind number

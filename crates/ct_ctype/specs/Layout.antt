@@ -16,7 +16,7 @@ Table = List (Option StructLayout)
 
 -- at most one more than 1 MiB
 abbrev pub capped : ℕ → ℕ
-capped n = min n 1048577
+capped bytes = min bytes 1048577
 
 -- the target: a scalar aligns at its size (6.2.8)
 abbrev pub scalar : ℕ → Extent
@@ -24,51 +24,51 @@ scalar bytes = record { size = bytes; alignment = bytes }
 
 -- the bytes of 8 bits that a kind's width takes
 abbrev pub bytes_of : IntKind → ℕ
-bytes_of k = (width k + 7) / 8
+bytes_of kind = (width kind + 7) / 8
 
 -- an array: its elements follow one another (6.2.5p20)
 abbrev pub repeated : ℕ → Extent → Extent
-repeated n element = record { size = capped (n * element.size); alignment = element.alignment }
+repeated count element = record { size = capped (count * element.size); alignment = element.alignment }
 
 -- the layout of a struct that is complete
 abbrev pub layout_of : Table → ℕ → Option StructLayout
-layout_of s which = option_and_then (λ (layout : Option StructLayout). layout) (slice_get s which)
+layout_of structs which = option_and_then (λ (layout : Option StructLayout). layout) (slice_get structs which)
 
 -- one level of a type, with the extents of its parts
 abbrev pub extent_step : Table → CType-F (Option Extent) (Unit {0}) → Option Extent
-extent_step s CType-F.Void = None
-extent_step s (CType-F.Int k) = Some (scalar (bytes_of k))
-extent_step s (CType-F.Pointer pointee constant) = Some (scalar pointer_bytes)
-extent_step s (CType-F.Array element None) = None
-extent_step s (CType-F.Array element (Some n)) = option_map (repeated n) element
-extent_step s (CType-F.Struct which) = option_map (λ layout. layout.extent) (layout_of s which)
-extent_step s (CType-F.Function f) = None
+extent_step structs CType-F.Void = None
+extent_step structs (CType-F.Int kind) = Some (scalar (bytes_of kind))
+extent_step structs (CType-F.Pointer pointee constant) = Some (scalar pointer_bytes)
+extent_step structs (CType-F.Array element None) = None
+extent_step structs (CType-F.Array element (Some count)) = option_map (repeated count) element
+extent_step structs (CType-F.Struct which) = option_map (λ layout. layout.extent) (layout_of structs which)
+extent_step structs (CType-F.Function f) = None
 
 -- the extent of a type; a type that is incomplete, `void` and a function have none
 unfoldable pub extent_of : Table → CType → Option Extent
-extent_of s = fold-CType (Option Extent) (Unit {0}) (extent_step s) (λ f. tt)
+extent_of structs = fold-CType (Option Extent) (Unit {0}) (extent_step structs) (λ f. tt)
 
 -- the extents of the members, where each has one
 abbrev pub extents_of : Table → List Member → Option (List Extent)
-extents_of s [] = Some []
-extents_of s (member ∷ members) = option_and_then (λ e. option_map (λ extents. e ∷ extents) (extents_of s members)) (extent_of s member.kind)
+extents_of structs [] = Some []
+extents_of structs (member ∷ members) = option_and_then (λ extent. option_map (λ extents. extent ∷ extents) (extents_of structs members)) (extent_of structs member.kind)
 
 -- the members in order, each at the next multiple of its alignment, the first from this place on (6.7.2.1p14 and 6.7.2.1p15)
 abbrev pub placed : ℕ → List Member → List Extent → List Member
 placed from [] extents = []
 placed from (member ∷ members) [] = []
-placed from (member ∷ members) (e ∷ extents) =
-    let at = next_multiple_of from e.alignment in
-    record member { offset = capped at } ∷ placed (at + e.size) members extents
+placed from (member ∷ members) (extent ∷ extents) =
+    let at = next_multiple_of from extent.alignment in
+    record member { offset = capped at } ∷ placed (at + extent.size) members extents
 
 -- where the last of them ends
 abbrev pub end_of : ℕ → List Extent → ℕ
 end_of from [] = from
-end_of from (e ∷ extents) = end_of (next_multiple_of from e.alignment + e.size) extents
+end_of from (extent ∷ extents) = end_of (next_multiple_of from extent.alignment + extent.size) extents
 
 -- the largest alignment
 abbrev pub largest : ℕ → List Extent → ℕ
-largest so_far extents = fold max so_far (map (λ e. e.alignment) extents)
+largest so_far extents = fold max so_far (map (λ extent. extent.alignment) extents)
 
 -- the size is rounded up to the largest alignment (6.7.2.1p17)
 abbrev pub struct_layout : List Member → List Extent → StructLayout
@@ -78,7 +78,7 @@ struct_layout members extents =
 
 -- the layout of a struct with these members, where each has a size
 abbrev pub laid_out : Table → List Member → Option StructLayout
-laid_out s members = option_map (struct_layout members) (extents_of s members)
+laid_out structs members = option_map (struct_layout members) (extents_of structs members)
 
 -- a struct stands here, and has no members yet
 abbrev pub is_open : Option (Option StructLayout) → Bool
@@ -88,27 +88,27 @@ is_open None = false
 
 -- the table with these members as those of the struct, where it is open and each of them has a size
 abbrev pub completed : Table → ℕ → List Member → Option Table
-completed s which members =
-    if is_open (slice_get s which) then option_map (λ layout. slice_set s which (Some layout)) (laid_out s members) else None
+completed structs which members =
+    if is_open (slice_get structs which) then option_map (λ layout. slice_set structs which (Some layout)) (laid_out structs members) else None
 
 -- what each extent keeps
-pub record IsExtent (e : Extent) : Type 0 where
-  pub size : e.size ≤ 1048577
-  pub some : 0 < e.alignment
-  pub alignment : e.alignment ≤ largest_alignment
+pub record IsExtent (extent : Extent) : Type 0 where
+  pub size : extent.size ≤ 1048577
+  pub some : 0 < extent.alignment
+  pub alignment : extent.alignment ≤ largest_alignment
 
 -- what each complete struct keeps: its layout is that which its members have over the whole table
-pub record IsKept (s : Table) (layout : StructLayout) : Type 0 where
-  pub laid : laid_out s layout.members ≡ Some layout
+pub record IsKept (structs : Table) (layout : StructLayout) : Type 0 where
+  pub laid : laid_out structs layout.members ≡ Some layout
   pub bounded : IsExtent layout.extent
 
 abbrev pub AllKept : Table → Type 0
-AllKept s = (which : ℕ) (layout : StructLayout) → layout_of s which ≡ Some layout → IsKept s layout
+AllKept structs = (which : ℕ) (layout : StructLayout) → layout_of structs which ≡ Some layout → IsKept structs layout
 
 -- the struct that an object of the type holds, alone or as an element of an array
 abbrev pub held_step : CType-F (Option ℕ) (Unit {0}) → Option ℕ
 held_step CType-F.Void = None
-held_step (CType-F.Int k) = None
+held_step (CType-F.Int kind) = None
 held_step (CType-F.Pointer pointee constant) = None
 held_step (CType-F.Array element count) = element
 held_step (CType-F.Struct which) = Some which
@@ -118,17 +118,17 @@ unfoldable pub held_struct : CType → Option ℕ
 held_struct = fold-CType (Option ℕ) (Unit {0}) held_step (λ f. tt)
 
 -- no struct holds itself, also through others: each is higher than those that its members hold
-pub record IsAcyclic (s : Table) : Type 0 where
+pub record IsAcyclic (structs : Table) : Type 0 where
   pub height : ℕ → ℕ
-  pub falls : (which : ℕ) (layout : StructLayout) (k : ℕ) (member : Member) (inner : ℕ) → layout_of s which ≡ Some layout → slice_get layout.members k ≡ Some member → held_struct member.kind ≡ Some inner → height inner < height which
+  pub falls : (which : ℕ) (layout : StructLayout) (place : ℕ) (member : Member) (inner : ℕ) → layout_of structs which ≡ Some layout → slice_get layout.members place ≡ Some member → held_struct member.kind ≡ Some inner → height inner < height which
 
-pub record IsSound (s : Table) : Type 0 where
-  pub kept : AllKept s
-  pub acyclic : IsAcyclic s
+pub record IsSound (structs : Table) : Type 0 where
+  pub kept : AllKept structs
+  pub acyclic : IsAcyclic structs
 
 -- the offset of the member of this name; of the first, if there are several
 abbrev pub member_offset : List ℕ → List Member → Option ℕ
 member_offset name members = option_map (λ (member : Member). member.offset) (find (λ (member : Member). bytes_eq member.name name) members)
 
 abbrev pub offset_in : Table → ℕ → List ℕ → Option ℕ
-offset_in s which name = option_and_then (λ (layout : StructLayout). member_offset name layout.members) (layout_of s which)
+offset_in structs which name = option_and_then (λ (layout : StructLayout). member_offset name layout.members) (layout_of structs which)

@@ -44,26 +44,26 @@ is_signed UnsignedLongLong = false
 
 -- the range of a kind, in two's complement (6.2.6.2p1 and 6.2.6.2p2)
 abbrev pub least : IntKind → ℤ
-least k = if is_signed k then neg_ℤ (pos (2 ^ (width k - 1))) else pos 0
+least kind = if is_signed kind then neg_ℤ (pos (2 ^ (width kind - 1))) else pos 0
 
 abbrev pub greatest : IntKind → ℤ
-greatest k = pos (if is_signed k then 2 ^ (width k - 1) - 1 else 2 ^ width k - 1)
+greatest kind = pos (if is_signed kind then 2 ^ (width kind - 1) - 1 else 2 ^ width kind - 1)
 
-pub record InRange (k : IntKind) (z : ℤ) : Type 0 where
-  pub low : least k ≤ℤ z
-  pub high : z ≤ℤ greatest k
+pub record InRange (kind : IntKind) (number : ℤ) : Type 0 where
+  pub low : least kind ≤ℤ number
+  pub high : number ≤ℤ greatest kind
 
 abbrev pub is_in_range : IntKind → ℤ → Bool
-is_in_range k z = int_le (least k) z && int_le z (greatest k)
+is_in_range kind number = int_le (least kind) number && int_le number (greatest kind)
 
 -- the low bits of a number in two's complement, as many as the kind has
 abbrev pub low_bits : IntKind → ℤ → ℕ
-low_bits k z = unsigned_abs (int_rem_euclid z (pos (2 ^ width k)))
+low_bits kind number = unsigned_abs (int_rem_euclid number (pos (2 ^ width kind)))
 
 -- the number that a kind's bits stand for: from half of all on, those of a signed kind are negative
-abbrev pub number_of : IntKind → ℕ → ℤ
-number_of k bits = if int_le (pos bits) (greatest k) then pos bits else pos bits -ℤ pos (2 ^ width k)
+abbrev pub value_of_bits : IntKind → ℕ → ℤ
+value_of_bits kind bits = if int_le (pos bits) (greatest kind) then pos bits else pos bits -ℤ pos (2 ^ width kind)
 
--- the number of the range that differs from z by a multiple of 2 ^ width
+-- the number of the range that differs from this one by a multiple of 2 ^ width
 abbrev pub wrapped : IntKind → ℤ → ℤ
-wrapped k z = number_of k (low_bits k z)
+wrapped kind number = value_of_bits kind (low_bits kind number)

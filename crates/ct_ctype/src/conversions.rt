@@ -1,7 +1,7 @@
 //! Conversions between kinds of integers (C11 6.3.1).
 
 ghost use Rattle.std.specs.Prelude.{◌≡◌, ◌≢◌, ◌<◌, ◌^◌};
-ghost use Rattle.ct_ctype.specs.Ranges.{InRange, width, low_bits as spec_low_bits, number_of as spec_number_of, wrapped};
+ghost use Rattle.ct_ctype.specs.Ranges.{InRange, width, low_bits as spec_low_bits, value_of_bits as spec_value_of_bits, wrapped};
 ghost use Rattle.ct_ctype.specs.Conversion as spec;
 
 use crate::kinds::IntKind;
@@ -120,7 +120,7 @@ pub(crate) fn low_bits(k: IntKind, v: i128) -> u128
 /// The number that these bits stand for.
 pub(crate) fn number_of(k: IntKind, bits: u128) -> i128
     requires { bits < 2 ^ width k }
-    ensures value { result ≡ spec_number_of k bits }
+    ensures value { result ≡ spec_value_of_bits k bits }
     ensures in_range { InRange k result }
     ensures low { spec_low_bits k result ≡ bits }
 {

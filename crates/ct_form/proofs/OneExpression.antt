@@ -9,7 +9,7 @@ use Rattle.ct_core.specs.declared.trees.CoreExpression.TheVariants.{Constant, Fu
 use Rattle.ct_form.specs.declared.names.Binding.{Binding}
 use Rattle.ct_form.specs.declared.names.Signature.{Signature}
 use Rattle.ct_form.specs.Words.{Nothing, Stands, Absent, StandsName, StandsNumber}
-use Rattle.ct_form.specs.Names.{type_of, callee, number_of}
+use Rattle.ct_form.specs.Names.{type_of, callee, variable_number}
 use Rattle.ct_form.specs.Expressions.{IsExpression, IsSum, IsSumOf, IsSign, IsUnit, IsCall, IsArguments, IsList, value_of, sum, less, units, whole, further, plus, minus, number, variable, call, group, named, none, some, last, more}
 use Rattle.ct_form.proofs.OneWord.{one_rest, not_both, one_name, no_name, one_number, number_or_name, number_or_group}
 
@@ -109,7 +109,7 @@ module _ (signatures : List Signature) (scope : List Binding) where
     one_unit (variable v a k) (number n') = absurd (number_or_name v n')
     one_unit (variable v a k) (variable v' a' k') =
         let e = one_name v v' in
-        let h = ap (λ (t : Token). number_of scope t.text) e.0 in
+        let h = ap (λ (t : Token). variable_number scope t.text) e.0 in
         (ap value_of (some_of (sym k ∙ h ∙ k')), e.1)
     one_unit (variable v a k) (call (named v' w' k' p' l' h') g') = let e = one_name v v' in absurd (a _ (Stands-at e.1 w'))
     one_unit (variable v a k) (group w' p' x' z') = absurd (no_name w' v refl)

@@ -9,7 +9,7 @@ use Rattle.ct_core.specs.declared.trees.CoreStatement.TheVariants.{Run, Block, D
 use Rattle.ct_form.specs.declared.names.Binding.{Binding}
 use Rattle.ct_form.specs.declared.names.Signature.{Signature}
 use Rattle.ct_form.specs.Words.{Stands, StandsName, is_free_name}
-use Rattle.ct_form.specs.Names.{number_of}
+use Rattle.ct_form.specs.Names.{variable_number}
 use Rattle.ct_form.specs.Expressions.{IsCall, named, int}
 use Rattle.ct_form.specs.Statements.{At, IsStatement, IsBody, IsStart, IsTest, IsPair, absent, present, block, assignment, call, only, either, while, returned, assertion, close, declaration, statement, mark, begun, moved, binding, declared, assertion_core}
 use Rattle.ct_form.proofs.OneWord.{one_rest, not_both, one_name, no_name}
@@ -126,7 +126,7 @@ module _ (signatures : List Signature) (unity gives_value : Bool) where
     one_statement {scope = scope} {at = at} (assignment v e k x z) (assignment v' e' k' x' z') =
         let n = one_name v v' in
         let i = one_rest e (Stands-at signatures scope n.1 e') in
-        let m = some_of (sym k ∙ ap (λ (t : Token). number_of scope t.text) n.0 ∙ k') in
+        let m = some_of (sym k ∙ ap (λ (t : Token). variable_number scope t.text) n.0 ∙ k') in
         let y = one_expression signatures scope x (IsExpression-at signatures scope i x') in
         (same_assignment at m y.0, ap (begun at) (one_rest z (Stands-at signatures scope y.1 z')))
     one_statement {scope = scope} {at = at} (assignment v e k x z) (call c' z') = absurd (call_or_assignment signatures scope c' v e)

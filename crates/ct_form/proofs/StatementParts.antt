@@ -7,7 +7,7 @@ use Rattle.ct_core.specs.declared.trees.CoreStatement.{CoreStatement}
 use Rattle.ct_form.specs.declared.names.Binding.{Binding}
 use Rattle.ct_form.specs.declared.names.Signature.{Signature}
 use Rattle.ct_form.specs.Words.{Nothing, Stands, Absent, StandsName}
-use Rattle.ct_form.specs.Names.{number_of}
+use Rattle.ct_form.specs.Names.{variable_number}
 use Rattle.ct_form.specs.Expressions.{IsExpression, IsCall}
 use Rattle.ct_form.specs.Statements.{At, IsStatement, IsBody, IsTest, IsPair, block, assignment, call, only, either, while, returned, assertion, begun, moved, parentheses}
 use Rattle.ct_form.proofs.OneWord.{one_rest, not_both, one_name, no_name}
@@ -139,7 +139,7 @@ module _ (signatures : List Signature) (unity gives_value : Bool) where
 
   pub record AssignmentParts (scope : List Binding) (name : Token) (behind : List Token) : Type 0 where
     pub number : ℕ
-    pub number_is : number_of scope name.text ≡ Some number
+    pub number_is : variable_number scope name.text ≡ Some number
     pub value : CoreExpression
     pub ending : List Token
     pub rest : List Token
@@ -154,7 +154,7 @@ module _ (signatures : List Signature) (unity gives_value : Bool) where
       let n = one_name v v' in
       record {
         number = _;
-        number_is = ap (λ (t : Token). number_of scope t.text) n.0 ∙ k';
+        number_is = ap (λ (t : Token). variable_number scope t.text) n.0 ∙ k';
         value = _;
         ending = _;
         rest = _;

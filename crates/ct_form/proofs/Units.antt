@@ -6,7 +6,7 @@ use Rattle.ct_core.specs.declared.trees.CoreExpression.{CoreExpression}
 use Rattle.ct_form.specs.declared.names.Binding.{Binding}
 use Rattle.ct_form.specs.declared.names.Signature.{Signature}
 use Rattle.ct_form.specs.Words.{Nothing, Stands, Absent, StandsName, StandsNumber}
-use Rattle.ct_form.specs.Names.{callee, number_of}
+use Rattle.ct_form.specs.Names.{callee, variable_number}
 use Rattle.ct_form.specs.Expressions.{IsExpression, IsSum, IsUnit, IsCall, IsArguments, IsList, IsGroup, IsValueOfCall, sum, less, number, variable, call, group, named, none, some}
 use Rattle.ct_form.proofs.OneWord.{one_rest, one_name, no_name, number_or_name, number_or_group}
 use Rattle.ct_form.proofs.OneExpression.{one_sum, one_expression, one_arguments, one_call, call_or_group, some_of, Stands-at, IsSum-at, IsExpression-at, IsArguments-at}
@@ -88,10 +88,10 @@ module _ (signatures : List Signature) (scope : List Binding) where
   is_value_of_call g = call g.is_call g.gives
 
   pub no_variable : {room : ℕ} {tokens rest : List Token} {name : Token}
-      → StandsName tokens name rest → Absent (codes "(") rest → number_of scope name.text ≡ None → Nothing (IsUnit signatures scope room tokens)
+      → StandsName tokens name rest → Absent (codes "(") rest → variable_number scope name.text ≡ None → Nothing (IsUnit signatures scope room tokens)
   no_variable v a k core ending (number m) = number_or_name v m
   no_variable v a k core ending (variable v' a' k') =
-      let e = ap (λ (t : Token). number_of scope t.text) (one_name v v').0 in
+      let e = ap (λ (t : Token). variable_number scope t.text) (one_name v v').0 in
       none_or_some (sym k ∙ e ∙ k')
   no_variable v a k core ending (call c g) = no_call_open v a c
   no_variable v a k core ending (group w p x z) = no_name w v refl

@@ -14,7 +14,7 @@ use Rattle.ct_form.specs.declared.places.Place.{Place}
 use Rattle.ct_form.specs.declared.statements.Context.{Context}
 use Rattle.ct_form.specs.declared.words.NoMatch.{NoMatch}
 use Rattle.ct_form.specs.Words.{Nothing, Stands, Absent, StandsName}
-use Rattle.ct_form.specs.Names.{number_of}
+use Rattle.ct_form.specs.Names.{variable_number}
 use Rattle.ct_form.specs.Expressions.{IsExpression, IsCall, int}
 use Rattle.ct_form.specs.Readers.{AnswersStatement, at_of}
 use Rattle.ct_form.specs.Statements.{At, IsStatement, IsBody, IsTest, IsPair, block, assignment, call, only, either, while, returned, assertion, mark, begun, moved, parentheses, assertion_core}
@@ -189,14 +189,14 @@ module _ (signatures : List Signature) (unity gives_value : Bool) where
 
   -- an assignment
   pub is_assignment : {room number : ℕ} {scope : List Binding} {at after : At} {name : Token} {middle behind ending rest : List Token} {m : Mark} {core object stored : CoreExpression}
-      → StandsName at.tokens name middle → Stands (codes "=") middle behind → m ≡ mark at → number_of scope name.text ≡ Some number
+      → StandsName at.tokens name middle → Stands (codes "=") middle behind → m ≡ mark at → variable_number scope name.text ≡ Some number
       → IsExpression signatures scope parentheses behind core ending → Stands (codes ";") ending rest
       → object ≡ Variable number → stored ≡ core → after ≡ begun at rest
       → IsStatement signatures unity gives_value room scope at (Run m (Assign int object stored)) after
   is_assignment v w e k x z o y f = rw (e, f, o, y) (assignment v w k x z)
 
   pub no_assignment_variable : {room : ℕ} {scope : List Binding} {at : At} {name : Token} {middle behind : List Token}
-      → StandsName at.tokens name middle → Stands (codes "=") middle behind → number_of scope name.text ≡ None
+      → StandsName at.tokens name middle → Stands (codes "=") middle behind → variable_number scope name.text ≡ None
       → Nothing (IsStatement signatures unity gives_value room scope at)
   no_assignment_variable v w k core after s =
       let p = assignment_parts signatures unity gives_value v w s in

@@ -14,7 +14,7 @@ use Rattle.ct_core.specs.declared.trees.CoreExpression.TheVariants.{Constant, Va
 use Rattle.ct_form.specs.declared.names.Binding.{Binding}
 use Rattle.ct_form.specs.declared.names.Signature.{Signature}
 use Rattle.ct_form.specs.Words.{Nothing, Stands, Absent, StandsName, StandsNumber}
-use Rattle.ct_form.specs.Names.{number_of, callee, type_of}
+use Rattle.ct_form.specs.Names.{variable_number, callee, type_of}
 
 abbrev pub int : Scalar
 int = scalar.Int Int
@@ -60,7 +60,7 @@ module _ (signatures : List Signature) (scope : List Binding) where
           → StandsNumber tokens value rest
           → IsUnit room tokens (Constant Int (pos value)) rest
       variable : {room place : ℕ} {tokens rest : List Token} {name : Token}
-          → StandsName tokens name rest → Absent (codes "(") rest → number_of scope name.text ≡ Some place
+          → StandsName tokens name rest → Absent (codes "(") rest → variable_number scope name.text ≡ Some place
           → IsUnit room tokens (value_of place) rest
       -- a call in an expression gives a value
       call : {room : ℕ} {tokens rest : List Token} {signature : Signature} {core : CoreExpression}

@@ -12,8 +12,8 @@ abbrev pub is_bound : List ℕ → Binding → Bool
 is_bound name binding = bytes_eq binding.name name
 
 -- the number of the variable of a name in a scope, which has the innermost and newest declaration last
-abbrev pub number_of : List Binding → List ℕ → Option ℕ
-number_of scope name = option_map (λ (binding : Binding). binding.number) (find (is_bound name) (reverse scope))
+abbrev pub variable_number : List Binding → List ℕ → Option ℕ
+variable_number scope name = option_map (λ (binding : Binding). binding.number) (find (is_bound name) (reverse scope))
 
 -- whether these declarations, those of one block, have the name
 abbrev pub is_declared : List Binding → List ℕ → Bool
@@ -28,7 +28,7 @@ signature_named signatures name = find (is_signed name) signatures
 
 -- a variable hides a function of its name
 abbrev pub callee : List Signature → List Binding → List ℕ → Option Signature
-callee signatures scope name = unless (number_of scope name)
+callee signatures scope name = unless (variable_number scope name)
   where
     unless : Option ℕ → Option Signature
     unless (Some number) = None

@@ -17,7 +17,7 @@ use Rattle.ct_core.specs.declared.units.Variable.{Variable as Object}
 use Rattle.ct_form.specs.declared.names.Binding.{Binding}
 use Rattle.ct_form.specs.declared.names.Signature.{Signature}
 use Rattle.ct_form.specs.Words.{Stands, Absent, StandsName, first_word}
-use Rattle.ct_form.specs.Names.{number_of, is_declared, int_type, assertion_type}
+use Rattle.ct_form.specs.Names.{variable_number, is_declared, int_type, assertion_type}
 use Rattle.ct_form.specs.Expressions.{IsExpression, IsCall, int}
 
 -- A place in the text of a function: the tokens that are left, how many statements and declarations of the unit began
@@ -107,7 +107,7 @@ module _ (signatures : List Signature) (unity gives_value : Bool) where
           → IsBody (room - 1) scope [] (begun at inside) numbers parts after
           → IsStatement room scope at (Block (mark at) numbers parts) after
       assignment : {room number : ℕ} {scope : List Binding} {at : At} {name : Token} {middle behind ending rest : List Token} {core : CoreExpression}
-          → StandsName at.tokens name middle → Stands (codes "=") middle behind → number_of scope name.text ≡ Some number
+          → StandsName at.tokens name middle → Stands (codes "=") middle behind → variable_number scope name.text ≡ Some number
           → IsExpression signatures scope parentheses behind core ending → Stands (codes ";") ending rest
           → IsStatement room scope at (Run (mark at) (Assign int (Variable number) core)) (begun at rest)
       call : {room : ℕ} {scope : List Binding} {at : At} {signature : Signature} {core : CoreExpression} {ending rest : List Token}

@@ -3,7 +3,7 @@
 ghost use Rattle.std.specs.Prelude.{◌≡◌, IfOk};
 ghost use Rattle.std.specs.List.{list_any};
 ghost use Rattle.std.specs.Option.{option_map};
-ghost use Rattle.ct_form.specs.Names.{callee as callee_of, is_declared as declared, is_signed, number_of as place_of, signature_named, type_of as function_type};
+ghost use Rattle.ct_form.specs.Names.{callee as callee_of, is_declared as declared, is_signed, variable_number as place_of, signature_named, type_of as function_type};
 
 use ct_base::{Bytes, Items, Mem};
 use ct_ctype::{CType, FunctionType, IntKind};

@@ -23,7 +23,7 @@ use Rattle.ct_core.specs.declared.trees.CoreExpression.TheVariants.{Constant, Va
 use Rattle.ct_core.specs.declared.trees.CoreStatement.TheVariants.{Run, Block, Declare, If, While, Return, outs-Run, outs-Block, outs-Declare, outs-If, outs-While, outs-Return}
 use Rattle.ct_meaning.specs.declared.state.Ending.TheVariants.{Onward, Returned}
 use Rattle.ct_meaning.specs.Rules.{failed, apply_binary, apply_conversion, variable, literal, designator, load, store, begun}
-use Rattle.ct_meaning.specs.Doing.{Does, Outcome, onwards, ◌>>=◌, pure, each, each_onto}
+use Rattle.ct_meaning.specs.Doing.{Does, ValueAndState, onwards, ◌>>=◌, pure, each, each_onto}
 use Rattle.ct_meaning.specs.World.{World, Where, Target, Defined, Given, target_of, variable_at}
 use Rattle.ct_meaning.specs.Views.{Gives}
 use Rattle.ct_meaning.specs.Meaning.{Calls, Evaluates, Executes, used_value, apply_call, within, in_turn, then_go, holds, turns, otherwise, declare, return_of, initialise_parameter, initialise_parameters, scalar_of_variable, defined_body, body_of, calls, expression, expression_step, statement, statement_step}
@@ -44,23 +44,23 @@ deeper f n some = let e : n ≡ suc (n - 1) = omega arith in ap f e
 -- ---- an outcome that is known
 
 -- an abort, or memory that runs out, is handed on
-pub stops : {A B : Type 0} (o : Outcome A) (f : A → Does B) (e : Stop) (s : State) → Gives o (Err e) s → Gives (onwards o f) (Err e) s
+pub stops : {A B : Type 0} (o : ValueAndState A) (f : A → Does B) (e : Stop) (s : State) → Gives o (Err e) s → Gives (onwards o f) (Err e) s
 stops o f Aborted s h = ap (λ p. onwards p f) h
 stops o f OutOfMemory s h = tt
 
 -- after a value the rest goes on
-pub goes_on : {A B : Type 0} (o : Outcome A) (f : A → Does B) (a : A) (s : State) (r : Result B Stop) (s' : State) → o ≡ (Some a, s) → Gives (f a s) r s' → Gives (onwards o f) r s'
-goes_on o f a s r s' e h = let P : Outcome _ → Type 0 = λ p. Gives p r s' in subst P (sym (ap (λ p. onwards p f) e)) h
+pub goes_on : {A B : Type 0} (o : ValueAndState A) (f : A → Does B) (a : A) (s : State) (r : Result B Stop) (s' : State) → o ≡ (Some a, s) → Gives (f a s) r s' → Gives (onwards o f) r s'
+goes_on o f a s r s' e h = let P : ValueAndState _ → Type 0 = λ p. Gives p r s' in subst P (sym (ap (λ p. onwards p f) e)) h
 
 -- the same, under an equation for the outcome
-pub stops_by : {A B : Type 0} (o : Outcome B) (p : Outcome A) (f : A → Does B) (e : Stop) (s : State) → o ≡ onwards p f → Gives p (Err e) s → Gives o (Err e) s
-stops_by o p f e s same h = let P : Outcome _ → Type 0 = λ q. Gives q (Err e) s in subst P (sym same) (stops p f e s h)
+pub stops_by : {A B : Type 0} (o : ValueAndState B) (p : ValueAndState A) (f : A → Does B) (e : Stop) (s : State) → o ≡ onwards p f → Gives p (Err e) s → Gives o (Err e) s
+stops_by o p f e s same h = let P : ValueAndState _ → Type 0 = λ q. Gives q (Err e) s in subst P (sym same) (stops p f e s h)
 
-pub goes_by : {A B : Type 0} (o : Outcome B) (p : Outcome A) (f : A → Does B) (a : A) (s : State) (r : Result B Stop) (s' : State) → o ≡ onwards p f → p ≡ (Some a, s) → Gives (f a s) r s' → Gives o r s'
-goes_by o p f a s r s' same e h = let P : Outcome _ → Type 0 = λ q. Gives q r s' in subst P (sym same) (goes_on p f a s r s' e h)
+pub goes_by : {A B : Type 0} (o : ValueAndState B) (p : ValueAndState A) (f : A → Does B) (a : A) (s : State) (r : Result B Stop) (s' : State) → o ≡ onwards p f → p ≡ (Some a, s) → Gives (f a s) r s' → Gives o r s'
+goes_by o p f a s r s' same e h = let P : ValueAndState _ → Type 0 = λ q. Gives q r s' in subst P (sym same) (goes_on p f a s r s' e h)
 
-pub gives_by : {A : Type 0} (o p : Outcome A) (r : Result A Stop) (s : State) → o ≡ p → Gives p r s → Gives o r s
-gives_by o p r s same h = let P : Outcome _ → Type 0 = λ q. Gives q r s in subst P (sym same) h
+pub gives_by : {A : Type 0} (o p : ValueAndState A) (r : Result A Stop) (s : State) → o ≡ p → Gives p r s → Gives o r s
+gives_by o p r s same h = let P : ValueAndState _ → Type 0 = λ q. Gives q r s in subst P (sym same) h
 
 -- ---- expressions
 

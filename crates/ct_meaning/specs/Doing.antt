@@ -3,14 +3,14 @@ use Rattle.std.specs.Prelude.{List, [], ◌∷◌, ◌++◌, Option, Some, None}
 use Rattle.ct_meaning.specs.declared.state.State.{State}
 
 -- the value, unless the part aborts, and the new state
-abbrev pub Outcome : Type 0 → Type 0
-Outcome A = Option A × State
+abbrev pub ValueAndState : Type 0 → Type 0
+ValueAndState A = Option A × State
 
 abbrev pub Does : Type 0 → Type 0
-Does A = State → Outcome A
+Does A = State → ValueAndState A
 
 -- goes on with a value, and hands an abort on
-abbrev pub onwards : {A B : Type 0} → Outcome A → (A → Does B) → Outcome B
+abbrev pub onwards : {A B : Type 0} → ValueAndState A → (A → Does B) → ValueAndState B
 onwards (Some a, s) f = f a s
 onwards (None, s) f = (None, s)
 

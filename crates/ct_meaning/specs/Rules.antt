@@ -1,5 +1,6 @@
 -- The rules that evaluate no part. Only they read or change the state.
 use Rattle.std.specs.Prelude.{ℕ, ◌+◌, ◌-◌, ◌==◌, nat_lt, Bool, true, false, not, ◌&&◌, if◌then◌else◌, ℤ, unsigned_abs, List, [], ◌∷◌, ◌++◌, take, min, max, slice_get, Option, Some, None, is_some, is_none, option_map, option_and_then, unwrap_or, Result, Ok, Err}
+use Rattle.ct_base.specs.Limits.{mebibyte}
 use Rattle.ct_base.specs.declared.faults.FaultKind.{FaultKind}
 use Rattle.ct_base.specs.declared.faults.FaultKind.TheVariants.{NullPointer, DeadObject, OutOfBounds, BadCall, MissingReturn, CallDepth, StepBudget}
 use Rattle.ct_base.specs.declared.operators.BinaryOp.{BinaryOp}
@@ -30,8 +31,8 @@ use Rattle.ct_core.specs.Testing.{begun_test, judged, finished, faulted}
 use Rattle.ct_core.specs.BuiltIns.{equal_failure}
 use Rattle.ct_meaning.specs.declared.state.State.{State}
 use Rattle.ct_meaning.specs.declared.state.Place.{Place}
-use Rattle.ct_meaning.specs.Doing.{Outcome, Does, ◌>>=◌, pure}
-use Rattle.ct_meaning.specs.World.{World, Where, unit_space, variable_at, object_in, number_of, text_pointer}
+use Rattle.ct_meaning.specs.Doing.{ValueAndState, Does, ◌>>=◌, pure}
+use Rattle.ct_meaning.specs.World.{World, Where, unit_space, variable_at, object_in, function_number, text_pointer}
 
 -- the path of the test file
 abbrev pub path_of : Option CoreUnit → List ℕ
@@ -148,7 +149,7 @@ function_value (Some n) = Ok (Function n)
 function_value None = Err BadCall
 
 unfoldable pub designator : World → Where → List ℕ → Does Value
-designator w h name = given w h (function_value (number_of w h.unit name))
+designator w h name = given w h (function_value (function_number w h.unit name))
 
 abbrev pub value_from : Value → Scalar → Memory → Result Value FaultKind
 value_from address t m = and_then (pointer_in address) (λ p. load_result p t m)
@@ -168,7 +169,7 @@ abbrev pub first_value : Value → Scalar → Value → Memory → Result (Value
 first_value address t v m = and_then (pointer_in address) (λ p. and_then (scalar_in t v) (λ x. with_value x (initialise_result p t x m)))
 
 -- the value as it was stored (6.5.16p3)
-unfoldable pub changed : World → Where → State → Result (Value × Memory) FaultKind → Outcome Value
+unfoldable pub changed : World → Where → State → Result (Value × Memory) FaultKind → ValueAndState Value
 changed w h s (Ok stored) = (Some stored.0, record s { memory = stored.1 })
 changed w h s (Err fault) = stop w h fault s
 
@@ -193,7 +194,7 @@ scalar_of t = scalar_step (out-CType t)
 
 -- the bytes of an object, from 1 to 1 MiB: typing gives no other type to one
 abbrev pub object_bytes : Table → CType → ℕ
-object_bytes structs t = max 1 (min 1048576 (elim (extent_of structs t) [ Some e ↦ e.size | None ↦ 1 ]))
+object_bytes structs t = max 1 (min mebibyte (elim (extent_of structs t) [ Some e ↦ e.size | None ↦ 1 ]))
 
 abbrev pub structs_of : Option CoreUnit → Table
 structs_of (Some unit) = unit.structs
@@ -286,7 +287,7 @@ test_check values m =
     and_then (and_then (argument 0 values) pointer_in) (λ p. and_then (string_at p m) (λ name.
     and_then (number_argument UnsignedInt 1 values) (λ line. Ok (name, line))))
 
-unfoldable pub begun_test_by : World → Where → State → Result (List ℕ × ℤ) FaultKind → Outcome Value
+unfoldable pub begun_test_by : World → Where → State → Result (List ℕ × ℤ) FaultKind → ValueAndState Value
 begun_test_by w h s (Ok test) = (Some Void, with_test w test.0 (unsigned_abs test.1) s)
 begun_test_by w h s (Err fault) = stop w h fault s
 
@@ -309,7 +310,7 @@ unfoldable pub run_phase : Where → Does Value
 run_phase h = λ s. (Some Void, if in_test h s then record s { aborted = false } else s)
 
 -- an abort ends the phase
-abbrev pub caught : {A : Type 0} → Outcome A → Outcome Value
+abbrev pub caught : {A : Type 0} → ValueAndState A → ValueAndState Value
 caught (Some a, s) = (Some Void, s)
 caught (None, s) = (Some Void, record s { aborted = true })
 

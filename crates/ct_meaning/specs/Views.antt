@@ -8,7 +8,7 @@ use Rattle.ct_meaning.specs.declared.state.State.{State}
 use Rattle.ct_meaning.specs.declared.state.Position.{Position}
 use Rattle.ct_meaning.specs.declared.state.Stop.{Stop}
 use Rattle.ct_meaning.specs.declared.state.Stop.TheVariants.{Aborted, OutOfMemory}
-use Rattle.ct_meaning.specs.Doing.{Outcome}
+use Rattle.ct_meaning.specs.Doing.{ValueAndState}
 use Rattle.ct_meaning.specs.World.{World, Target, Defined, Given}
 use Rattle.ct_meaning.specs.World as spec
 use Rattle.ct_meaning.specs.declared.state.Where.{Where}
@@ -28,7 +28,7 @@ abbrev pub where_of : Where → spec.Where
 where_of h = position_of h.at h.frame.now
 
 -- this outcome, unless memory runs out
-abbrev pub Gives : {A : Type 0} → Outcome A → Result A Stop → State → Type 0
+abbrev pub Gives : {A : Type 0} → ValueAndState A → Result A Stop → State → Type 0
 Gives outcome (Ok a) new = outcome ≡ (Some a, new)
 Gives outcome (Err Aborted) new = outcome ≡ (None, new)
 Gives outcome (Err OutOfMemory) new = Unit {0}

@@ -82,8 +82,8 @@ abbrev pub own_number : World → ℕ → List ℕ → Option ℕ
 own_number w unit name = position (λ (d : Definition). bytes_eq d.name name && d.unit == unit) w.functions
 
 -- the number of the function that a name means in a unit: the unit's own function of that name, else the common one
-abbrev pub number_of : World → ℕ → List ℕ → Option ℕ
-number_of w unit name = or_else (own_number w unit name) (common_number w name)
+abbrev pub function_number : World → ℕ → List ℕ → Option ℕ
+function_number w unit name = or_else (own_number w unit name) (common_number w name)
 
 -- what a number means: a function that a row answers, one that a unit defines, or one that is built in
 pub data Target : Type 0 where

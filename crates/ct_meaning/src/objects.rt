@@ -1,6 +1,7 @@
 //! The rules on objects, steps and levels.
 
 ghost use Rattle.std.specs.Prelude.{◌≡◌, ◌+◌, ◌<◌, IfOk, OnOk, Some, min, max, take, slice_get, unwrap_or};
+ghost use Rattle.ct_base.specs.Limits.{mebibyte};
 ghost use Rattle.ct_core.specs.Access.{end_result};
 ghost use Rattle.ct_core.specs.Memory.{next_pointer};
 ghost use Rattle.ct_core.specs.declared.values.Value.TheVariants.{Object};
@@ -12,7 +13,7 @@ ghost use Rattle.ct_meaning.specs.Views.{world_of, where_of, Gives};
 use crate::program::Program;
 use crate::state::{Place, Position, State, Stop, Where};
 use crate::values;
-use ct_base::{FaultKind, Items, Mem, OutOfMemory};
+use ct_base::{FaultKind, Items, MEBIBYTE, Mem, OutOfMemory};
 use ct_core::{CoreUnit, Kind, Mark, Pointer, Scalar, Space, Value, Variable};
 use ct_ctype::{CType, Structs, size_of};
 use ct_memory::Memory;
@@ -209,7 +210,7 @@ impl Program<'_> {
     pub fn designator(&self, state: &mut State, h: Where<'_>, name: &[u8]) -> Result<Value, Stop>
         ensures { Gives (spec.designator (world_of self.now) (where_of h.entry) name.now state.old) result state.new }
     {
-        match self.number_of(h.at.unit, name) {
+        match self.function_number(h.at.unit, name) {
             Some(number) => match u32::try_from(number) {
                 Ok(number) => Ok(Value::Function(number)),
                 Err(_) => Err(Stop::OutOfMemory),
@@ -336,10 +337,10 @@ fn address_in(frame: &[(u32, Pointer)], place: u32) -> Result<Value, FaultKind>
 
 /// The bytes of an object whose type has this size, from 1 to 1 MiB.
 fn object_bytes(size: Option<u64>) -> u32
-    ensures { result ≡ max 1 (min 1048576 (unwrap_or size 1)) }
+    ensures { result ≡ max 1 (min mebibyte (unwrap_or size 1)) }
 {
     match size {
-        Some(size) => size.clamp(1, 1_048_576) as u32,
+        Some(size) => size.clamp(1, u64::from(MEBIBYTE)) as u32,
         None => 1,
     }
 }

@@ -82,8 +82,8 @@ impl Program<'_> {
     }
 
     /// The number of the function that a name means in a unit.
-    pub fn number_of(&self, unit: u32, name: &[u8]) -> Option<usize>
-        ensures { result ≡ spec.number_of (world_of self.now) unit name.now }
+    pub fn function_number(&self, unit: u32, name: &[u8]) -> Option<usize>
+        ensures { result ≡ spec.function_number (world_of self.now) unit name.now }
     {
         match self.own_number(unit, name) {
             Some(number) => Some(number),

@@ -1,6 +1,7 @@
 //! The log of a test program.
 
 ghost use Rattle.std.specs.Prelude.{◌≡◌, ◌≤◌, ◌<◌, IfOk, OnOk, slice_index};
+ghost use Rattle.ct_base.specs.Limits.{most_steps};
 ghost use Rattle.ct_core.specs.Memory.{with_new};
 ghost use Rattle.ct_meaning.specs.Program as spec;
 ghost use Rattle.ct_meaning.specs.Views.{world_of};
@@ -23,7 +24,7 @@ const TEXT_LIMIT: usize = 1_048_575;
 /// The log of the units: their `main` is run, with the budget of steps for each test.
 #[tactic(auto, unfolding(crate::specs::Program::log_of))]
 pub fn plain(alloc: Global, units: &[CoreUnit], table: &LinkTable, budget: u64) -> Mem<RunLog>
-    requires budget { (1 ≤ budget) × (budget ≤ 10000000) }
+    requires budget { (1 ≤ budget) × (budget ≤ most_steps) }
     ensures { IfOk result (λ log. log ≡ spec.log_of (spec.plain_world units.now table.now.functions budget)) }
 {
     let program = Program {
@@ -44,7 +45,7 @@ impl Program<'_> {
     /// The state at the end of `main`.
     #[tactic(auto, unfolding(crate::specs::Program::last_state, crate::specs::Program::enough))]
     fn last_state(&self) -> Mem<State>
-        requires { self.now.budget ≤ 10000000 }
+        requires { self.now.budget ≤ most_steps }
         ensures { IfOk result (λ state. state ≡ spec.last_state (world_of self.now)) }
     {
         let mut state = self.first_state()?;

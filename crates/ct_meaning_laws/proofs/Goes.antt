@@ -14,7 +14,7 @@ use Rattle.ct_core.specs.Memory.{Memory}
 use Rattle.ct_core.specs.Testing.{judged}
 use Rattle.ct_meaning.specs.declared.state.State.{State}
 use Rattle.ct_meaning.specs.declared.state.Ending.{Ending}
-use Rattle.ct_meaning.specs.Doing.{Outcome, Does, onwards, ◌>>=◌, finally}
+use Rattle.ct_meaning.specs.Doing.{ValueAndState, Does, onwards, ◌>>=◌, finally}
 use Rattle.ct_meaning.specs.World.{World, Where, target_of}
 use Rattle.ct_meaning.specs.Rules.{value_from, stored_value, test_check, begun_test_by, stop, failed, given, changed, load, store, initialise, begin_objects, end_objects, take_step, failed_at, can_begin, run_test, run_end, run_phase, run_call, in_test, with_test, without_test, caught}
 use Rattle.ct_meaning.specs.Meaning.{Calls, enter, then_go, turns, expression, statement, calls}
@@ -58,7 +58,7 @@ inner_tests w R = record {
 }
 
 module _ (R : State → State → Type 0) (follows : Follows R) where
-  then_goes : (A B : Type 0) (s : State) (o : Outcome A) (k : A → Does B) → R s o.1 → ((a : A) (t : State) → R t (k a t).1) → R s (onwards o k).1
+  then_goes : (A B : Type 0) (s : State) (o : ValueAndState A) (k : A → Does B) → R s o.1 → ((a : A) (t : State) → R t (k a t).1) → R s (onwards o k).1
   then_goes A B s (Some a, t) k h j = follows.joined s t (k a t).1 h (j a t)
   then_goes A B s (None, t) k h j = h
 
@@ -69,7 +69,7 @@ module _ (R : State → State → Type 0) (follows : Follows R) where
   unfolding end_objects
   ends_go n frame p q h s = follows.joined s (p s).1 (end_objects n frame (p s).1) (h s) (follows.memory (p s).1 _)
 
-  if_goes : (A : Type 0) (s : State) (b : Bool) (o o' : Outcome A) → R s o.1 → R s o'.1 → R s (if b then o else o').1
+  if_goes : (A : Type 0) (s : State) (b : Bool) (o o' : ValueAndState A) → R s o.1 → R s o'.1 → R s (if b then o else o').1
   if_goes A s true o o' h k = h
   if_goes A s false o o' h k = k
 
@@ -118,7 +118,7 @@ module _ (R : State → State → Type 0) (follows : Follows R) where
     unfolding run_phase
     phases_go h s = phase_at (in_test h s) s
 
-    caught_goes : (s : State) (o : Outcome Value) → R s o.1 → R s (caught o).1
+    caught_goes : (s : State) (o : ValueAndState Value) → R s o.1 → R s (caught o).1
     caught_goes s (Some a, t) k = k
     caught_goes s (None, t) k = follows.joined s t _ k (follows.aborted t true)
 

@@ -8,7 +8,7 @@ use Rattle.ct_core.specs.declared.trees.CoreExpression.{CoreExpression}
 use Rattle.ct_core.specs.declared.trees.CoreStatement.{CoreStatement}
 use Rattle.ct_meaning.specs.declared.state.State.{State}
 use Rattle.ct_meaning.specs.declared.state.Ending.{Ending}
-use Rattle.ct_meaning.specs.Doing.{Outcome, Does, onwards, ◌>>=◌, finally}
+use Rattle.ct_meaning.specs.Doing.{ValueAndState, Does, onwards, ◌>>=◌, finally}
 use Rattle.ct_meaning.specs.World.{World, Where, Target}
 use Rattle.ct_meaning.specs.Rules.{failed, end_objects, run_call, in_test, caught}
 use Rattle.ct_base.specs.declared.faults.FaultKind.TheVariants.{CallDepth}
@@ -25,19 +25,19 @@ Does_same A p q = (s : State) → p s ≡ q s
 abbrev pub Every : ℕ → Type 0
 Every n = Unit {0}
 
-then_same : (A B : Type 0) (o : Outcome A) (k l : A → Does B) → ((a : A) → Does_same B (k a) (l a)) → onwards o k ≡ onwards o l
+then_same : (A B : Type 0) (o : ValueAndState A) (k l : A → Does B) → ((a : A) → Does_same B (k a) (l a)) → onwards o k ≡ onwards o l
 then_same A B (Some a, s) k l h = h a s
 then_same A B (None, s) k l h = refl
 
 bind_same : (A B : Type 0) (p q : Does A) (k l : A → Does B) → Does_same A p q → ((a : A) → Does_same B (k a) (l a)) → Does_same B (p >>= k) (q >>= l)
-bind_same A B p q k l h j s = ap (λ (o : Outcome A). onwards o k) (h s) ∙ then_same A B (q s) k l j
+bind_same A B p q k l h j s = ap (λ (o : ValueAndState A). onwards o k) (h s) ∙ then_same A B (q s) k l j
 
 ends_same : (n : ℕ) (frame : List (ℕ × Pointer)) (p q : Does Ending) → Does_same Ending p q → Does_same Ending (finally p (end_objects n frame)) (finally q (end_objects n frame))
-ends_same n frame p q h s = ap (λ (o : Outcome Ending). (o.0, end_objects n frame o.1)) (h s)
+ends_same n frame p q h s = ap (λ (o : ValueAndState Ending). (o.0, end_objects n frame o.1)) (h s)
 
 phase_call_same : (h : Where) (p q : Does Value) → Does_same Value p q → Does_same Value (run_call h p) (run_call h q)
 unfolding run_call
-phase_call_same h p q k s = ap (λ (o : Outcome Value). if in_test h s && not s.aborted then caught o else (Some Void, s)) (k s)
+phase_call_same h p q k s = ap (λ (o : ValueAndState Value). if in_test h s && not s.aborted then caught o else (Some Void, s)) (k s)
 
 module _ (w : World) where
   rules : Holds w Every Does_same

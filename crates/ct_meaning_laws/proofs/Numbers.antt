@@ -13,7 +13,7 @@ use Rattle.ct_core.specs.declared.trees.Mark.{Mark}
 use Rattle.ct_meaning.specs.declared.state.State.{State}
 use Rattle.ct_meaning.specs.declared.state.Ending.{Ending}
 use Rattle.ct_meaning.specs.declared.state.Ending.TheVariants.{Onward, Returned}
-use Rattle.ct_meaning.specs.Doing.{Outcome, Does, pure}
+use Rattle.ct_meaning.specs.Doing.{ValueAndState, Does, pure}
 use Rattle.ct_meaning.specs.World.{World, Where, Target, Row, Empty, Outside, Defined, Given, target_of, variable_at}
 use Rattle.ct_meaning.specs.Rules.{stop, failed, failed_test, given, used, truth_in, apply_binary, apply_conversion, variable, literal, designator, load, store, initialise, begin_objects, end_objects, check_level, level_limit, take_step, begun, argument, run_call, in_test, caught}
 use Rattle.ct_meaning.specs.Meaning.{Calls, enter, call_target, call_value, procedure, handed_call, built_in, apply_call, scalar_of_variable, initialise_parameter, row_body, body_of, calls}
@@ -28,7 +28,7 @@ pub record SameState (budget m : ℕ) (s t : State) : Type 0 where
   pub same : s ≡ t
   pub below : left_in budget s < m
 
-agree_self : {A : Type 0} (budget m : ℕ) (o : Outcome A) → left_in budget o.1 < m → Agree Equal (SameState budget m) o o
+agree_self : {A : Type 0} (budget m : ℕ) (o : ValueAndState A) → left_in budget o.1 < m → Agree Equal (SameState budget m) o o
 agree_self budget m (Some a, s) h = (refl, record { same = refl; below = h })
 agree_self budget m (None, s) h = record { same = refl; below = h }
 
@@ -94,13 +94,13 @@ same_where h k same =
     ∙ ap (λ f. record h { level = k.level; unit = k.unit; function = k.function; frame = f }) (same_frame h.frame k.frame same.frame)
     ∙ ap (λ p. record k { place = p }) same.call.place
 
-equal_outcomes : (budget m : ℕ) (o o' : Outcome Ending) → Agree (Endings Equal) (SameState budget m) o o' → o ≡ o'
+equal_outcomes : (budget m : ℕ) (o o' : ValueAndState Ending) → Agree (Endings Equal) (SameState budget m) o o' → o ≡ o'
 equal_outcomes budget m (Some a, s) (Some b, t) h = ap (λ (x : Ending). (Some x, s)) (same_flow a b h.0) ∙ ap (λ (x : State). (Some b, x)) h.1.same
 equal_outcomes budget m (None, s) (None, t) h = ap (λ (x : State). (None, x)) h.same
 equal_outcomes budget m (Some a, s) (None, t) h = absurd h
 equal_outcomes budget m (None, s) (Some b, t) h = absurd h
 
-left_below : (budget m : ℕ) (o o' : Outcome Ending) → Agree (Endings Equal) (SameState budget m) o o' → left_in budget o.1 < m
+left_below : (budget m : ℕ) (o o' : ValueAndState Ending) → Agree (Endings Equal) (SameState budget m) o o' → left_in budget o.1 < m
 left_below budget m (Some a, s) (Some b, t) h = h.1.below
 left_below budget m (None, s) (None, t) h = h.below
 left_below budget m (Some a, s) (None, t) h = absurd h
@@ -135,7 +135,7 @@ module _ (w : World) where
   both_failed h k same fault m s t r =
       record { same = same_failed h k same fault s ∙ ap (λ x. failed w k fault x) r.same; below = failed_below m h fault s r.below }
 
-  stepped : Where → State → Bool → Outcome (Unit {0})
+  stepped : Where → State → Bool → ValueAndState (Unit {0})
   stepped h s b = if b then (Some tt, record s { steps = s.steps - 1 }) else stop w h StepBudget s
 
   step_taken : (b : Bool) (h k : Where) → SameCall Any h k → (m : ℕ) (s t : State) → nat_lt 0 s.steps ≡ b → s ≡ t → left_in w.budget s < suc m
@@ -170,13 +170,13 @@ module _ (w : World) where
 
   -- ---- calls of the functions that are built in
 
-  caught_keeps : (m : ℕ) (o o' : Outcome Value) → Agree Equal (Same m) o o' → Agree Equal (Same m) (caught o) (caught o')
+  caught_keeps : (m : ℕ) (o o' : ValueAndState Value) → Agree Equal (Same m) o o' → Agree Equal (Same m) (caught o) (caught o')
   caught_keeps m (Some a, s) (Some b, t) h = (refl, h.1)
   caught_keeps m (None, s) (None, t) h = (refl, record { same = ap (λ (x : State). record x { aborted = true }) h.same; below = h.below })
   caught_keeps m (Some a, s) (None, t) h = absurd h
   caught_keeps m (None, s) (Some b, t) h = absurd h
 
-  call_at : (b : Bool) (m : ℕ) (o o' : Outcome Value) (s t : State) → Agree Equal (Same m) o o' → Same m s t
+  call_at : (b : Bool) (m : ℕ) (o o' : ValueAndState Value) (s t : State) → Agree Equal (Same m) o o' → Same m s t
       → Agree Equal (Same m) (if b then caught o else (Some Void, s)) (if b then caught o' else (Some Void, t))
   call_at true m o o' s t h r = caught_keeps m o o' h
   call_at false m o o' s t h r = (refl, r)
@@ -185,7 +185,7 @@ module _ (w : World) where
   unfolding run_call
   run_call_keeps h n p q keep = record {
     at = λ m le s t r.
-        let f : Bool → Outcome Value = λ b. if b then caught (q t) else (Some Void, t) in
+        let f : Bool → ValueAndState Value = λ b. if b then caught (q t) else (Some Void, t) in
         let P : Bool → Type 0 = λ b. Agree Equal (Same m) (run_call h p s) (f b) in
         subst P (ap (λ (x : State). in_test h x && not x.aborted) r.same) (call_at (in_test h s && not s.aborted) m (p s) (q t) s t (keep.at m le s t r) r);
   }

@@ -21,7 +21,7 @@ use Rattle.ct_meaning.specs.declared.state.State.{State}
 use Rattle.ct_meaning.specs.declared.state.Place.{Place}
 use Rattle.ct_meaning.specs.declared.state.Ending.{Ending}
 use Rattle.ct_meaning.specs.declared.state.Ending.TheVariants.{Onward, Returned}
-use Rattle.ct_meaning.specs.Doing.{Outcome, Does, onwards, ◌>>=◌, ◌>>◌, pure, each_onto, finally}
+use Rattle.ct_meaning.specs.Doing.{ValueAndState, Does, onwards, ◌>>=◌, ◌>>◌, pure, each_onto, finally}
 use Rattle.ct_meaning.specs.World.{World, Where, Target, Defined, target_of, variable_at}
 use Rattle.ct_meaning.specs.Rules.{stop, failed, given, used, truth_in, apply_binary, apply_conversion, variable, literal, designator, load, store, initialise, begin_objects, end_objects, check_level, take_step, begun}
 use Rattle.ct_meaning.specs.Meaning.{Calls, value_of, enter, apply_call, Evaluates, used_value, expression_step, expression, Executes, then_go, in_turn, within, holds, turns, declare, return_of, statement_step, statement, places_from, scalar_of_variable, initialise_parameter, initialise_parameters, defined_body, body_of, calls}
@@ -31,14 +31,14 @@ use Rattle.ct_meaning_laws.proofs.Spends.{first_true, second_true}
 -- ---- two outcomes
 
 -- both have values, which are related, or both abort; and the states are related
-abbrev pub Agree : {A B : Type 0} → (A → B → Type 0) → (State → State → Type 0) → Outcome A → Outcome B → Type 0
+abbrev pub Agree : {A B : Type 0} → (A → B → Type 0) → (State → State → Type 0) → ValueAndState A → ValueAndState B → Type 0
 Agree V R (Some a, s) (Some b, t) = V a b × R s t
 Agree V R (None, s) (None, t) = R s t
 Agree V R (Some a, s) (None, t) = ⊥
 Agree V R (None, s) (Some b, t) = ⊥
 
 -- the same, with states that are related otherwise where there are values
-abbrev pub Lower : {A B : Type 0} → (State → State → Type 0) → (State → State → Type 0) → Outcome A → Outcome B → Type 0
+abbrev pub Lower : {A B : Type 0} → (State → State → Type 0) → (State → State → Type 0) → ValueAndState A → ValueAndState B → Type 0
 Lower S R (Some a, s) (Some b, t) = S s t
 Lower S R (None, s) (None, t) = R s t
 Lower S R (Some a, s) (None, t) = ⊥
@@ -131,7 +131,7 @@ fewer R V m n p q le h = record { at = λ i below s t r. h.at i (omega arith) s 
 pub done : {A B : Type 0} (R : ℕ → State → State → Type 0) (V : A → B → Type 0) (n : ℕ) (a : A) (b : B) → V a b → Keeps R V n (pure a) (pure b)
 done R V n a b h = record { at = λ m le s t r. (h, r) }
 
-then_agree : {A B C D : Type 0} (R : ℕ → State → State → Type 0) (V : A → B → Type 0) (W : C → D → Type 0) (n m : ℕ) (o : Outcome A) (o' : Outcome B) (f : A → Does C) (g : B → Does D)
+then_agree : {A B C D : Type 0} (R : ℕ → State → State → Type 0) (V : A → B → Type 0) (W : C → D → Type 0) (n m : ℕ) (o : ValueAndState A) (o' : ValueAndState B) (f : A → Does C) (g : B → Does D)
     → m ≤ n → Agree V (R m) o o' → ((a : A) (b : B) → V a b → Keeps R W n (f a) (g b)) → Agree W (R m) (onwards o f) (onwards o' g)
 then_agree R V W n m (Some a, s) (Some b, t) f g le h k = (k a b h.0).at m le s t h.1
 then_agree R V W n m (None, s) (None, t) f g le h k = h
@@ -142,7 +142,7 @@ pub bind : {A B C D : Type 0} (R : ℕ → State → State → Type 0) (V : A �
     → Keeps R V n p q → ((a : A) (b : B) → V a b → Keeps R W n (f a) (g b)) → Keeps R W n (p >>= f) (q >>= g)
 bind R V W n p q f g h k = record { at = λ m le s t r. then_agree R V W n m (p s) (q t) f g le (h.at m le s t r) k }
 
-weaker_agree : {A B : Type 0} (V W : A → B → Type 0) (R : State → State → Type 0) (o : Outcome A) (o' : Outcome B) → ((a : A) (b : B) → V a b → W a b) → Agree V R o o' → Agree W R o o'
+weaker_agree : {A B : Type 0} (V W : A → B → Type 0) (R : State → State → Type 0) (o : ValueAndState A) (o' : ValueAndState B) → ((a : A) (b : B) → V a b → W a b) → Agree V R o o' → Agree W R o o'
 weaker_agree V W R (Some a, s) (Some b, t) k h = (k a b h.0, h.1)
 weaker_agree V W R (None, s) (None, t) k h = h
 weaker_agree V W R (Some a, s) (None, t) k h = absurd h
@@ -151,7 +151,7 @@ weaker_agree V W R (None, s) (Some b, t) k h = absurd h
 pub weaker : {A B : Type 0} (R : ℕ → State → State → Type 0) (V W : A → B → Type 0) (n : ℕ) (p : Does A) (q : Does B) → ((a : A) (b : B) → V a b → W a b) → Keeps R V n p q → Keeps R W n p q
 weaker R V W n p q k h = record { at = λ m le s t r. weaker_agree V W (R m) (p s) (q t) k (h.at m le s t r) }
 
-finally_agree : {A B : Type 0} (R : State → State → Type 0) (V : A → B → Type 0) (o : Outcome A) (o' : Outcome B) (f g : State → State)
+finally_agree : {A B : Type 0} (R : State → State → Type 0) (V : A → B → Type 0) (o : ValueAndState A) (o' : ValueAndState B) (f g : State → State)
     → Agree V R o o' → ((s t : State) → R s t → R (f s) (g t)) → Agree V R (o.0, f o.1) (o'.0, g o'.1)
 finally_agree R V (Some a, s) (Some b, t) f g h k = (h.0, k s t h.1)
 finally_agree R V (None, s) (None, t) f g h k = k s t h
@@ -173,14 +173,14 @@ if_keeps R V n b c p p' q q' e h k =
     if_same R V n true p p' q q' h k = h
     if_same R V n false p p' q q' h k = k
 
-raised : {A B : Type 0} (V : A → B → Type 0) (R S : State → State → Type 0) (o : Outcome A) (o' : Outcome B) → ((s t : State) → R s t → S s t) → Agree V R o o' → Agree V S o o'
+raised : {A B : Type 0} (V : A → B → Type 0) (R S : State → State → Type 0) (o : ValueAndState A) (o' : ValueAndState B) → ((s t : State) → R s t → S s t) → Agree V R o o' → Agree V S o o'
 raised V R S (Some a, s) (Some b, t) h k = (k.0, h s t k.1)
 raised V R S (None, s) (None, t) h k = h s t k
 raised V R S (Some a, s) (None, t) h k = absurd k
 raised V R S (None, s) (Some b, t) h k = absurd k
 
 -- after a step there is one call or turn less
-lower_agree : {A B C D : Type 0} (R : ℕ → State → State → Type 0) (V : C → D → Type 0) (n m : ℕ) (o : Outcome A) (o' : Outcome B) (p : Does C) (q : Does D)
+lower_agree : {A B C D : Type 0} (R : ℕ → State → State → Type 0) (V : C → D → Type 0) (n m : ℕ) (o : ValueAndState A) (o' : ValueAndState B) (p : Does C) (q : Does D)
     → m ≤ n → ((s t : State) → R m s t → R (suc m) s t) → Lower (R m) (R (suc m)) o o' → Keeps R V n p q → Agree V (R (suc m)) (onwards o (λ _. p)) (onwards o' (λ _. q))
 lower_agree R V n m (Some a, s) (Some b, t) p q le more h k = raised V (R m) (R (suc m)) (p s) (q t) more (k.at m le s t h)
 lower_agree R V n m (None, s) (None, t) p q le more h k = h

@@ -11,7 +11,7 @@ use Rattle.ct_core.specs.declared.values.Value.{Value}
 use Rattle.ct_core.specs.declared.objects.Scalar.{Scalar}
 use Rattle.ct_core.specs.Memory.{Memory}
 use Rattle.ct_meaning.specs.declared.state.State.{State}
-use Rattle.ct_meaning.specs.Doing.{Outcome, Does, onwards, ◌>>=◌, pure}
+use Rattle.ct_meaning.specs.Doing.{ValueAndState, Does, onwards, ◌>>=◌, pure}
 use Rattle.ct_meaning.specs.World.{World, Where}
 use Rattle.ct_report.specs.declared.logs.Verdict.TheVariants.{Fail}
 use Rattle.std.specs.Prelude.{unsigned_abs}
@@ -26,7 +26,7 @@ use Rattle.ct_meaning.specs.Program.{left_in, left_in_test}
 pub record Spends {A : Type 0} (budget : ℕ) (p : Does A) : Type 0 where
   pub at : (s : State) → left_in budget (p s).1 ≤ left_in budget s
 
-then_spends : {A B : Type 0} (budget : ℕ) (o : Outcome A) (f : A → Does B) (n : ℕ) → left_in budget o.1 ≤ n → ((a : A) → Spends budget (f a)) → left_in budget (onwards o f).1 ≤ n
+then_spends : {A B : Type 0} (budget : ℕ) (o : ValueAndState A) (f : A → Does B) (n : ℕ) → left_in budget o.1 ≤ n → ((a : A) → Spends budget (f a)) → left_in budget (onwards o f).1 ≤ n
 then_spends budget (Some a, s) f n h k = let g = (k a).at s in omega arith
 then_spends budget (None, s) f n h k = h
 

@@ -8,7 +8,7 @@ use Rattle.ct_core.specs.declared.trees.CoreStatement.{CoreStatement}
 use Rattle.ct_meaning.specs.declared.state.State.{State}
 use Rattle.ct_meaning.specs.declared.state.Ending.{Ending}
 use Rattle.ct_meaning.specs.declared.state.Ending.TheVariants.{Onward}
-use Rattle.ct_meaning.specs.Doing.{Outcome, Does, onwards, ◌>>=◌, ◌>>◌, pure}
+use Rattle.ct_meaning.specs.Doing.{ValueAndState, Does, onwards, ◌>>=◌, ◌>>◌, pure}
 use Rattle.ct_meaning.specs.World.{World, Where}
 use Rattle.ct_meaning.specs.Rules.{stop, failed, check_level, take_step, with_test}
 use Rattle.ct_meaning.specs.Meaning.{Calls, value_of, enter, Evaluates, Executes, then_go, holds, turns, expression, statement, calls}
@@ -89,7 +89,7 @@ module _ (w : World) where
 
   -- ---- a call
 
-  same_state : (o : Outcome Ending) → (onwards o (λ flow. pure (value_of flow))).1 ≡ o.1
+  same_state : (o : ValueAndState Ending) → (onwards o (λ flow. pure (value_of flow))).1 ≡ o.1
   same_state (Some flow, s) = refl
   same_state (None, s) = refl
 
@@ -100,7 +100,7 @@ module _ (w : World) where
 
   pub call_takes : (call : Calls) (number : ℕ) (values : List Value) (h : Where) (s : State) → h.level < 64 → 0 < s.steps
       → (enter w h call number values s).1 ≡ (call number values (record h { level = h.level + 1; frame = [] }) (record s { steps = s.steps - 1 })).1
-  call_takes call number values h s below some = ap (λ (o : Outcome Value). o.1) (entered call number values h s below some) ∙ same_state _
+  call_takes call number values h s below some = ap (λ (o : ValueAndState Value). o.1) (entered call number values h s below some) ∙ same_state _
 
   pub call_lowers : (i number : ℕ) (values : List Value) (h : Where) (s : State) → h.level < 64 → 0 < s.steps → (enter w h (calls w i) number values s).1.steps < s.steps
   call_lowers i number values h s below some =
@@ -118,7 +118,7 @@ module _ (w : World) where
   turn_begins : (n : ℕ) (test : Evaluates) (body : Executes) (h : Where) (s t : State) → holds w h test s ≡ (Some true, t)
       → turns w h (suc n) test body s ≡ (take_step w h >> (body h >>= (λ flow. then_go flow (turns w h n test body)))) t
   turn_begins n test body h s t e =
-      ap (λ (o : Outcome Bool). onwards o (λ yes. if yes then (take_step w h >> (body h >>= (λ flow. then_go flow (turns w h n test body)))) else pure Onward)) e
+      ap (λ (o : ValueAndState Bool). onwards o (λ yes. if yes then (take_step w h >> (body h >>= (λ flow. then_go flow (turns w h n test body)))) else pure Onward)) e
 
   pub turn_takes : (n : ℕ) (test : Evaluates) (body : Executes) (h : Where) (s t : State) → holds w h test s ≡ (Some true, t) → 0 < t.steps
       → turns w h (suc n) test body s ≡ onwards (body h (record t { steps = t.steps - 1 })) (λ flow. then_go flow (turns w h n test body))
@@ -135,6 +135,6 @@ module _ (w : World) where
       → (turns w h (suc n) (expression w (calls w i) e) (statement w m (calls w i) b) s).1.steps < t.steps
   turn_lowers m n i e b h s t l is some =
       let begun = record t { steps = t.steps - 1 } in
-      let step = ap (λ (o : Outcome Ending). o.1.steps) (turn_takes n (expression w (calls w i) e) (statement w m (calls w i) b) h s t is some) in
+      let step = ap (λ (o : ValueAndState Ending). o.1.steps) (turn_takes n (expression w (calls w i) e) (statement w m (calls w i) b) h s t is some) in
       let less = turn_goes Fewer fewer w Inner (inner_tests w Fewer) i m n e b h l begun in
       omega (arith, step, less, some)

@@ -1,6 +1,7 @@
 //! The objects of both spaces.
 
 ghost use Rattle.std.specs.Prelude.{◌≡◌, ◌<◌, ◌≤◌, ◌^◌, length, Ok, Err, IfOk, IsOk, OnOk, OnErr, MatchResult};
+ghost use Rattle.ct_base.specs.Limits.{mebibyte};
 ghost use Rattle.ct_core.specs.Memory.{objects_in, object_of, no_objects, with_new, new_object, next_pointer, about_object, cell_at};
 ghost use Rattle.ct_core.specs.Access.{reached_object, memory_with, load_result, store_result, initialise_result, end_result, IsOf};
 
@@ -57,7 +58,7 @@ impl Memory {
     ) -> Mem<Pointer>
         requires room { length (objects_in space self.old) < 2 ^ 42 }
         requires some { 1 ≤ bytes }
-        requires at_most { bytes ≤ 1048576 }
+        requires at_most { bytes ≤ mebibyte }
         ensures pointer { IfOk result (λ pointer. pointer ≡ next_pointer space self.old) }
         ensures ok { OnOk result (self.new ≡ with_new space (new_object kind name bytes constant) self.old) }
         ensures err { OnErr result (self.new ≡ self.old) }

@@ -13,8 +13,8 @@ use Rattle.ct_core.specs.declared.units.Variable.{Variable}
 use Rattle.ct_core.specs.Memory.{no_objects}
 use Rattle.ct_core.specs.Testing.{judged}
 use Rattle.ct_meaning.specs.declared.state.State.{State}
-use Rattle.ct_meaning.specs.Doing.{Outcome, Does}
-use Rattle.ct_meaning.specs.World.{World, Where, Target, space_of, number_of, text_pointer, variable_at}
+use Rattle.ct_meaning.specs.Doing.{ValueAndState, Does}
+use Rattle.ct_meaning.specs.World.{World, Where, Target, space_of, function_number, text_pointer, variable_at}
 use Rattle.ct_meaning.specs.Rules.{given, used, truth_in, apply_binary, apply_conversion, binary_value, converted_value, variable, address_in, literal, designator, function_value, load, store, initialise, equal_check, failed_at, assert_equal_int, begun_test_by, test_check, can_begin, run_test, in_test, without_test, run_end, run_phase, caught, run_call}
 use Rattle.ct_meaning.specs.Meaning.{Calls, enter, call_target, call_value, handed_call, built_in, apply_call, scalar_of_variable, initialise_parameter}
 use Rattle.ct_phases.specs.Linked.{is_ordinary}
@@ -39,7 +39,7 @@ module _ (plain written : World) (U N : ℕ → Type 0) (T : List Stored) (count
 
   -- ---- the calls that act at level 0 alone
 
-  idle_at : (b c : Bool) → b ≡ false → c ≡ false → (m : ℕ) (s t : State) (o o' : Outcome Value) → R m s t
+  idle_at : (b c : Bool) → b ≡ false → c ≡ false → (m : ℕ) (s t : State) (o o' : ValueAndState Value) → R m s t
       → Agree V (R m) (if b then o else (Some Void, s)) (if c then o' else (Some Void, t))
   idle_at false false e d m s t o o' r = (record { same = refl; safe = tt }, r)
   idle_at true c e d m s t o o' r = cc
@@ -153,7 +153,7 @@ module _ (plain written : World) (U N : ℕ → Type 0) (T : List Stored) (count
         safe = ap space_of (twins.unit x.unit i.unit) ∙ twins.space x.unit i.unit;
       }))
 
-  safe_function : (unit : ℕ) (name : List ℕ) → is_ordinary name ≡ true → (o : Option ℕ) → number_of written unit name ≡ o → SafeResult N (function_value o)
+  safe_function : (unit : ℕ) (name : List ℕ) → is_ordinary name ≡ true → (o : Option ℕ) → function_number written unit name ≡ o → SafeResult N (function_value o)
   safe_function unit name fine (Some number) e = twins.reached unit name number fine e
   safe_function unit name fine None e = tt
 
@@ -161,9 +161,9 @@ module _ (plain written : World) (U N : ℕ → Type 0) (T : List Stored) (count
   unfolding designator
   designator_keeps h k same n name fine = part.placed plain written U N T count twins V n h k same (λ x. designator plain x name) (λ x. designator written x name)
       (λ x i.
-      let P : Option ℕ → Type 0 = λ o. Keeps R V n (given plain x (function_value o)) (given written x (function_value (number_of written x.unit name))) in
-      subst P (sym (twins.numbers x.unit name)) (rule.safe_keeps plain written U N T count twins n x x i.call (function_value (number_of written x.unit name))
-      (safe_function x.unit name fine (number_of written x.unit name) refl)))
+      let P : Option ℕ → Type 0 = λ o. Keeps R V n (given plain x (function_value o)) (given written x (function_value (function_number written x.unit name))) in
+      subst P (sym (twins.numbers x.unit name)) (rule.safe_keeps plain written U N T count twins n x x i.call (function_value (function_number written x.unit name))
+      (safe_function x.unit name fine (function_number written x.unit name) refl)))
 
   pub kin : Kin plain written U Deep is_ordinary V R
   kin = record {

@@ -6,7 +6,7 @@ use Rattle.std.proofs.lemmas.Slice.Eq.{bytes_eq-Decides}
 use Rattle.ct_core.specs.declared.units.CoreUnit.{CoreUnit}
 use Rattle.ct_core.specs.declared.units.CoreFunction.{CoreFunction}
 use Rattle.ct_core.specs.declared.units.Definition.{Definition}
-use Rattle.ct_meaning.specs.World.{World, is_external, is_common, common_number, own_number, or_else, number_of, Defined, target_of, inner_target, defined_target}
+use Rattle.ct_meaning.specs.World.{World, is_external, is_common, common_number, own_number, or_else, function_number, Defined, target_of, inner_target, defined_target}
 use Rattle.ct_meaning.specs.Program.{plain_world}
 use Rattle.ct_meaning.specs.Written.{written_world, functions_of, is_test, defines}
 use Rattle.ct_phases.specs.Linked.{IsLinked, function_in, definition_of, runner_of}
@@ -72,11 +72,11 @@ module _ (units : List CoreUnit) (table : List Definition) (budget : ℕ) (path 
   pub common_same : (name : List ℕ) → common_number plain name ≡ common_number written name
   common_same name = λ i. position (λ (d : Definition). bytes_eq d.name name && shared_same d i) table
 
-  pub numbers_same : (unit : ℕ) (name : List ℕ) → number_of plain unit name ≡ number_of written unit name
+  pub numbers_same : (unit : ℕ) (name : List ℕ) → function_number plain unit name ≡ function_number written unit name
   numbers_same unit name = ap (λ (o : Option ℕ). or_else (own_number plain unit name) o) (common_same name)
 
   -- a number has a definition of the name that it was found by
-  pub named : (unit number : ℕ) (name : List ℕ) (d : Definition) → number_of plain unit name ≡ Some number → slice_get table number ≡ Some d → d.name ≡ name
+  pub named : (unit number : ℕ) (name : List ℕ) (d : Definition) → function_number plain unit name ≡ Some number → slice_get table number ≡ Some d → d.name ≡ name
   named unit number name d e at = own (own_number plain unit name) (placed _ table) e
     where
       same : (k : ℕ) (x : Definition) (b : Bool) → slice_get table k ≡ Some x → (bytes_eq x.name name && b) ≡ true → Some k ≡ Some number → d.name ≡ name
@@ -116,7 +116,7 @@ module _ (units : List CoreUnit) (table : List Definition) (budget : ℕ) (path 
             let fails = none number (definition_of f unit place) stands in cc
 
     -- in the runner each name means what it means in units that define none of its own
-    pub runner_number : (name : List ℕ) → number_of plain (length units) name ≡ common_number plain name
+    pub runner_number : (name : List ℕ) → function_number plain (length units) name ≡ common_number plain name
     runner_number name = own (own_number plain (length units) name) (placed _ table)
       where
         common : (k : ℕ) (x : Definition) → slice_get table k ≡ Some x → bytes_eq x.name name ≡ true → is_common plain x ≡ true

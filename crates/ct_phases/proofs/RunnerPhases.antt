@@ -5,7 +5,7 @@ use Rattle.ct_core.specs.declared.values.Value.{Value}
 use Rattle.ct_core.specs.declared.values.Value.TheVariants.{Void}
 use Rattle.ct_core.specs.declared.objects.Object.{Object as Stored}
 use Rattle.ct_meaning.specs.declared.state.State.{State}
-use Rattle.ct_meaning.specs.Doing.{Outcome, Does, onwards, pure}
+use Rattle.ct_meaning.specs.Doing.{ValueAndState, Does, onwards, pure}
 use Rattle.ct_meaning.specs.World.{World, Where}
 use Rattle.ct_meaning.specs.Rules.{in_test, without_test, caught, run_call}
 use Rattle.ct_meaning.specs.Meaning.{enter, calls}
@@ -18,7 +18,7 @@ use Rattle.ct_phases.proofs.RunnerRules.{Twins, Going, with_tool, SameRun}
 use Rattle.ct_phases.proofs.RunnerRun.{enters}
 
 -- whether a part aborted, and the state after it
-abbrev ended : Outcome Value → Bool × State
+abbrev ended : ValueAndState Value → Bool × State
 ended (Some v, t) = (false, t)
 ended (None, t) = (true, t)
 
@@ -37,10 +37,10 @@ and_true a b e d = let P : Bool → Type 0 = λ x. (x && b) ≡ true in subst P 
 
 module _ (plain written : World) (U N : ℕ → Type 0) (T : List Stored) (twins : Twins plain written U N) (h : Where) (same : SameCall U h outermost)
     (i j m : ℕ) (le : m ≤ i) (le' : m ≤ j) where
-  abbrev pub enter_plain : ℕ → State → Outcome Value
+  abbrev pub enter_plain : ℕ → State → ValueAndState Value
   enter_plain number = enter plain h (calls plain i) number []
 
-  abbrev pub enter_written : ℕ → State → Outcome Value
+  abbrev pub enter_written : ℕ → State → ValueAndState Value
   enter_written number = enter written outermost (calls written j) number []
 
   -- a call by the runner; it is left out where the phase was aborted
@@ -66,7 +66,7 @@ module _ (plain written : World) (U N : ℕ → Type 0) (T : List Stored) (twins
   held_test : (count : ℕ) (p : Bool × State) (s : State) → Held count p s → in_test h s ≡ true
   held_test count p s held = let P : State → Type 0 = λ x. in_test h x ≡ true in subst P (sym held.equal) (going_test count p.1 p.0 held.going)
 
-  after_call : (count : ℕ) (o o' : Outcome Value) → Agree (SameValue N) (SameRun T written.budget count m) o o' → Held count (ended o') (caught o).1
+  after_call : (count : ℕ) (o o' : ValueAndState Value) → Agree (SameValue N) (SameRun T written.budget count m) o o' → Held count (ended o') (caught o).1
   after_call count (Some a, s) (Some b, t) k =
       record { equal = k.1.same ∙ ap (λ (x : Bool). record (with_tool T t) { aborted = x }) k.1.going.unaborted; below = k.1.below; going = k.1.going }
   after_call count (None, s) (None, t) k = record { equal = ap (λ (x : State). record x { aborted = true }) k.same; below = k.below; going = k.going }
@@ -99,11 +99,11 @@ module _ (plain written : World) (U N : ℕ → Type 0) (T : List Stored) (twins
   abbrev finished : Does (Unit {0})
   finished = pure tt
 
-  last_in_order : (o : Outcome Value) → (onwards o (λ (v : Value). finished)).1 ≡ (ended o).1
+  last_in_order : (o : ValueAndState Value) → (onwards o (λ (v : Value). finished)).1 ≡ (ended o).1
   last_in_order (Some v, t) = refl
   last_in_order (None, t) = refl
 
-  first_in_order : (b : ℕ) (o : Outcome Value) → (onwards o (λ (v : Value). λ (x : State). onwards (enter_written b x) (λ (u : Value). finished))).1 ≡ (step b (ended o)).1
+  first_in_order : (b : ℕ) (o : ValueAndState Value) → (onwards o (λ (v : Value). λ (x : State). onwards (enter_written b x) (λ (u : Value). finished))).1 ≡ (step b (ended o)).1
   first_in_order b (Some v, t) = last_in_order (enter_written b t)
   first_in_order b (None, t) = refl
 

@@ -14,8 +14,8 @@ use Rattle.ct_core.specs.Memory.{Memory}
 use Rattle.ct_core.specs.Access.{and_then}
 use Rattle.ct_meaning.specs.declared.state.State.{State}
 use Rattle.ct_meaning.specs.declared.state.Place.{Place}
-use Rattle.ct_meaning.specs.Doing.{Outcome, Does, pure}
-use Rattle.ct_meaning.specs.World.{World, Where, Empty, Target, Outside, Defined, Given, target_of, unit_space, function_at, number_of, text_pointer}
+use Rattle.ct_meaning.specs.Doing.{ValueAndState, Does, pure}
+use Rattle.ct_meaning.specs.World.{World, Where, Empty, Target, Outside, Defined, Given, target_of, unit_space, function_at, function_number, text_pointer}
 use Rattle.ct_meaning.specs.Rules.{stop, failed, failed_test, given, address_in, value_from, load, stored_value, first_value, changed, store, initialise, check_level, level_limit, take_step}
 use Rattle.ct_meaning.specs.Meaning.{initialise_parameter}
 use Rattle.ct_meaning.specs.Program.{left_in}
@@ -44,8 +44,8 @@ pub record Twins (plain written : World) (U N : ℕ → Type 0) : Type 0 where
   pub unit : (unit : ℕ) → U unit → slice_get plain.units unit ≡ slice_get written.units unit
   pub space : (unit : ℕ) → U unit → unit_space written unit ≡ Project
   pub text : (unit text : ℕ) → U unit → text_pointer plain unit text ≡ text_pointer written unit text
-  pub numbers : (unit : ℕ) (name : List ℕ) → number_of plain unit name ≡ number_of written unit name
-  pub reached : (unit : ℕ) (name : List ℕ) (number : ℕ) → is_ordinary name ≡ true → number_of written unit name ≡ Some number → N number
+  pub numbers : (unit : ℕ) (name : List ℕ) → function_number plain unit name ≡ function_number written unit name
+  pub reached : (unit : ℕ) (name : List ℕ) (number : ℕ) → is_ordinary name ≡ true → function_number written unit name ≡ Some number → N number
   pub targets : (number : ℕ) → N number → Targets plain U (target_of plain number) (target_of written number)
 
 -- ---- two runs
@@ -135,7 +135,7 @@ module _ (plain written : World) (U N : ℕ → Type 0) (T : List Stored) (begun
 
   -- ---- steps and levels
 
-  stepped : World → Where → State → Bool → Outcome (Unit {0})
+  stepped : World → Where → State → Bool → ValueAndState (Unit {0})
   stepped w h s b = if b then (Some tt, record s { steps = s.steps - 1 }) else stop w h StepBudget s
 
   step_taken : (b : Bool) (h k : Where) → SameCall U h k → (m : ℕ) (t : State) → nat_lt 0 t.steps ≡ b → left_in written.budget t < suc m → Going begun t

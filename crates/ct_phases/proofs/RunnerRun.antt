@@ -7,7 +7,7 @@ use Rattle.ct_core.specs.declared.objects.Object.{Object as Stored}
 use Rattle.ct_meaning.specs.declared.state.State.{State}
 use Rattle.ct_meaning.specs.declared.state.Ending.{Ending}
 use Rattle.ct_meaning.specs.declared.state.Ending.TheVariants.{Onward}
-use Rattle.ct_meaning.specs.Doing.{Outcome}
+use Rattle.ct_meaning.specs.Doing.{ValueAndState}
 use Rattle.ct_meaning.specs.World.{World, Where, Target, Empty, Defined, target_of, function_at}
 use Rattle.ct_meaning.specs.Rules.{failed}
 use Rattle.ct_meaning.specs.Meaning.{Calls, defined_body, row_body, body_of, calls}
@@ -34,11 +34,11 @@ module _ (plain written : World) (U N : ℕ → Type 0) (T : List Stored) (count
       → Keeps R (Endings V) n (defined_body plain i call unit place (empty_function name) xs h) (row_body written k Empty ys)
   empty_keeps n i call unit place name is [] [] e h k same = record {
     at = λ m le s t r.
-        let P : Outcome Ending → Type 0 = λ o. Agree (Endings V) (R m) o (Some Onward, t) in subst P (sym (empty_body plain i call unit place name is h s)) (tt, r);
+        let P : ValueAndState Ending → Type 0 = λ o. Agree (Endings V) (R m) o (Some Onward, t) in subst P (sym (empty_body plain i call unit place name is h s)) (tt, r);
   }
   empty_keeps n i call unit place name is (x ∷ xs) (y ∷ ys) e h k same = record {
     at = λ m le s t r.
-        let P : Outcome Ending → Type 0 = λ o. Agree (Endings V) (R m) o (None, failed written k BadCall t) in
+        let P : ValueAndState Ending → Type 0 = λ o. Agree (Endings V) (R m) o (None, failed written k BadCall t) in
         subst P (sym (empty_stops plain i call unit place name is h x xs s)) (rule.stops plain written U N T count twins h k same BadCall m s t r);
   }
   empty_keeps n i call unit place name is [] (y ∷ ys) e h k same = absurd e

@@ -18,8 +18,8 @@ use Rattle.ct_core.specs.Access.{and_then, string_at}
 use Rattle.ct_meaning.specs.declared.state.State.{State}
 use Rattle.ct_meaning.specs.declared.state.Ending.{Ending}
 use Rattle.ct_meaning.specs.declared.state.Ending.TheVariants.{Onward, Returned}
-use Rattle.ct_meaning.specs.Doing.{Outcome, Does, onwards, pure, each}
-use Rattle.ct_meaning.specs.World.{World, Where, number_of, text_pointer, Target, Defined, Given, target_of}
+use Rattle.ct_meaning.specs.Doing.{ValueAndState, Does, onwards, pure, each}
+use Rattle.ct_meaning.specs.World.{World, Where, function_number, text_pointer, Target, Defined, Given, target_of}
 use Rattle.ct_meaning.specs.Rules.{given, used, literal, designator, function_value, begun, number_argument, test_check, with_test, begun_test_by, can_begin, run_test, in_test, without_test, run_end, run_phase, caught, run_call}
 use Rattle.ct_meaning.specs.Meaning.{Calls, enter, call_target, procedure, handed_call, built_in, apply_call, used_value, expression, statement, in_turn, then_go}
 use Rattle.ct_phases.specs.Runner.{unmarked, call_statement, run_test_type, run_call_type}
@@ -29,12 +29,12 @@ use Rattle.ct_phases.proofs.RunnerTrees.{call_means, function_means, text_means,
 -- a name means this built-in function in a unit
 pub record Offers (w : World) (unit : ℕ) (name : List ℕ) (b : BuiltIn) : Type 0 where
   pub number : ℕ
-  pub is_number : number_of w unit name ≡ Some number
+  pub is_number : function_number w unit name ≡ Some number
   pub target : target_of w number ≡ Some (Given b)
 
 -- a name means the function of this number in a unit, which some unit defines
 pub record Means (w : World) (unit : ℕ) (name : List ℕ) (number : ℕ) : Type 0 where
-  pub is_number : number_of w unit name ≡ Some number
+  pub is_number : function_number w unit name ≡ Some number
   pub in_unit : ℕ
   pub place : ℕ
   pub function : CoreFunction
@@ -44,7 +44,7 @@ go_on : Does Ending
 go_on = pure Onward
 
 module _ (w : World) (call : Calls) (n : ℕ) (h : Where) (tool : begun w h unmarked ≡ h) where
-  designated : (name : List ℕ) (number : ℕ) (s : State) → number_of w h.unit name ≡ Some number → expression w call (Function name) h s ≡ (Some (Designated number), s)
+  designated : (name : List ℕ) (number : ℕ) (s : State) → function_number w h.unit name ≡ Some number → expression w call (Function name) h s ≡ (Some (Designated number), s)
   unfolding designator given
   designated name number s e =
       ap (λ (p : Does Value). p s) (function_means w call name h) ∙ ap (λ (o : Option ℕ). given w h (function_value o) s) e
@@ -54,30 +54,30 @@ module _ (w : World) (call : Calls) (n : ℕ) (h : Where) (tool : begun w h unma
   module _ (e : CoreExpression) (v : Value) (s : State) (is : expression w call e h s ≡ (Some v, s)) (fine : used v ≡ Ok v) where
     argument_used : used_value w h (expression w call e) s ≡ (Some v, s)
     unfolding given
-    argument_used = ap (λ (o : Outcome Value). onwards o (λ (x : Value). given w h (used x))) is ∙ ap (λ (r : Result Value FaultKind). given w h r s) fine
+    argument_used = ap (λ (o : ValueAndState Value). onwards o (λ (x : Value). given w h (used x))) is ∙ ap (λ (r : Result Value FaultKind). given w h r s) fine
 
     one_argument : each (map (used_value w h) (map (expression w call) (e ∷ []))) s ≡ (Some (v ∷ []), s)
-    one_argument = ap (λ (o : Outcome Value). onwards o (λ (x : Value). pure (x ∷ []))) argument_used
+    one_argument = ap (λ (o : ValueAndState Value). onwards o (λ (x : Value). pure (x ∷ []))) argument_used
 
     module _ (e' : CoreExpression) (v' : Value) (is' : used_value w h (expression w call e') s ≡ (Some v', s)) where
       two_arguments : each (map (used_value w h) (map (expression w call) (e ∷ e' ∷ []))) s ≡ (Some (v ∷ v' ∷ []), s)
       two_arguments =
-          ap (λ (o : Outcome Value). onwards o (λ (x : Value). λ (t : State). onwards (used_value w h (expression w call e') t) (λ (y : Value). pure (x ∷ y ∷ [])))) argument_used
-          ∙ ap (λ (o : Outcome Value). onwards o (λ (y : Value). pure (v ∷ y ∷ []))) is'
+          ap (λ (o : ValueAndState Value). onwards o (λ (x : Value). λ (t : State). onwards (used_value w h (expression w call e') t) (λ (y : Value). pure (x ∷ y ∷ [])))) argument_used
+          ∙ ap (λ (o : ValueAndState Value). onwards o (λ (y : Value). pure (v ∷ y ∷ []))) is'
 
   -- ---- calls
 
   call_step : (type : FunctionType) (name : List ℕ) (arguments : List CoreExpression) (number : ℕ) (values : List Value) (v : Value) (s t : State)
-      → number_of w h.unit name ≡ Some number → each (map (used_value w h) (map (expression w call) arguments)) s ≡ (Some values, s)
+      → function_number w h.unit name ≡ Some number → each (map (used_value w h) (map (expression w call) arguments)) s ≡ (Some values, s)
       → apply_call w h call (Designated number) values s ≡ (Some v, t) → statement w n call (call_statement type name arguments) h s ≡ (Some Onward, t)
   call_step type name arguments number values v s t is handed done =
       let all = each (map (used_value w h) (map (expression w call) arguments)) in
       ap (λ (p : Does Ending). p s) (run_means w call n unmarked (Call type (Function name) arguments) h)
       ∙ ap (λ (x : Where). onwards (expression w call (Call type (Function name) arguments) x s) (λ (y : Value). pure Onward)) tool
       ∙ ap (λ (p : Does Value). onwards (p s) (λ (y : Value). pure Onward)) (call_means w call type (Function name) arguments h)
-      ∙ ap (λ (o : Outcome Value). onwards (onwards o (λ (callee : Value). λ (x : State). onwards (all x) (apply_call w h call callee))) (λ (y : Value). pure Onward)) (designated name number s is)
-      ∙ ap (λ (o : Outcome (List Value)). onwards (onwards o (apply_call w h call (Designated number))) (λ (y : Value). pure Onward)) handed
-      ∙ ap (λ (o : Outcome Value). onwards o (λ (y : Value). pure Onward)) done
+      ∙ ap (λ (o : ValueAndState Value). onwards (onwards o (λ (callee : Value). λ (x : State). onwards (all x) (apply_call w h call callee))) (λ (y : Value). pure Onward)) (designated name number s is)
+      ∙ ap (λ (o : ValueAndState (List Value)). onwards (onwards o (apply_call w h call (Designated number))) (λ (y : Value). pure Onward)) handed
+      ∙ ap (λ (o : ValueAndState Value). onwards o (λ (y : Value). pure Onward)) done
 
   applied : (name : List ℕ) (b : BuiltIn) (offers : Offers w h.unit name b) (values : List Value) (s : State)
       → apply_call w h call (Designated offers.number) values s ≡ built_in w h call b values s
@@ -112,7 +112,7 @@ module _ (w : World) (call : Calls) (n : ℕ) (h : Where) (tool : begun w h unma
   abbrev pub called : ℕ → State → State
   called number s = (run_call h (enter w h call number []) s).1
 
-  always_void : (b : Bool) (o : Outcome Value) (s : State) → (if b then caught o else (Some Void, s)) ≡ (Some Void, (if b then caught o else (Some Void, s)).1)
+  always_void : (b : Bool) (o : ValueAndState Value) (s : State) → (if b then caught o else (Some Void, s)) ≡ (Some Void, (if b then caught o else (Some Void, s)).1)
   always_void true (Some a, t) s = refl
   always_void true (None, t) s = refl
   always_void false o s = refl
@@ -124,7 +124,7 @@ module _ (w : World) (call : Calls) (n : ℕ) (h : Where) (tool : begun w h unma
       call_step run_call_type (codes "ceedling_run_call") (Function name ∷ []) offers.number (Designated number ∷ []) Void s (called number s) offers.is_number
       (one_argument (Function name) (Designated number) s (designated name number s means.is_number) refl)
       (applied (codes "ceedling_run_call") RunCall offers (Designated number ∷ []) s
-      ∙ ap (λ (o : Outcome Value). if in_test h s && not s.aborted then caught o else (Some Void, s)) (handed number means.in_unit means.place means.function s means.target)
+      ∙ ap (λ (o : ValueAndState Value). if in_test h s && not s.aborted then caught o else (Some Void, s)) (handed number means.in_unit means.place means.function s means.target)
       ∙ always_void (in_test h s && not s.aborted) (enter w h call number [] s) s)
 
   -- ---- ceedling_run_phase and ceedling_run_end
@@ -150,9 +150,9 @@ module _ (w : World) (call : Calls) (n : ℕ) (h : Where) (tool : begun w h unma
   return_step s =
       ap (λ (p : Does Ending). p s) (return_means w call n unmarked (Constant int (pos 0)) h)
       ∙ ap (λ (x : Where). onwards (used_value w x (expression w call (Constant int (pos 0))) s) (λ (v : Value). pure (Returned v))) tool
-      ∙ ap (λ (o : Outcome Value). onwards o (λ (v : Value). pure (Returned v)))
+      ∙ ap (λ (o : ValueAndState Value). onwards o (λ (v : Value). pure (Returned v)))
       (argument_used (Constant int (pos 0)) (Int (pos 0)) s (ap (λ (p : Does Value). p s) (constant_means w call int (pos 0) h)) refl)
 
   pub turn_step : (b : CoreStatement) (all : List CoreStatement) (s t : State) → statement w n call b h s ≡ (Some Onward, t)
       → in_turn h (map (statement w n call) (b ∷ all)) s ≡ in_turn h (map (statement w n call) all) t
-  turn_step b all s t e = ap (λ (o : Outcome Ending). onwards o (λ (flow : Ending). then_go flow (in_turn h (map (statement w n call) all)))) e
+  turn_step b all s t e = ap (λ (o : ValueAndState Ending). onwards o (λ (flow : Ending). then_go flow (in_turn h (map (statement w n call) all)))) e

@@ -11,7 +11,7 @@ use Rattle.ct_core.specs.declared.units.CoreUnit.{CoreUnit}
 use Rattle.ct_core.specs.declared.units.CoreFunction.{CoreFunction}
 use Rattle.ct_core.specs.declared.units.Definition.{Definition}
 use Rattle.ct_core.specs.BuiltIns.{built_in_of}
-use Rattle.ct_meaning.specs.World.{World, Row, Empty, common_number, number_of, unit_space, space_of, text_pointer, text_count, Target, Outside, Given, target_of, inner_target, defined_target, outer_target}
+use Rattle.ct_meaning.specs.World.{World, Row, Empty, common_number, function_number, unit_space, space_of, text_pointer, text_count, Target, Outside, Given, target_of, inner_target, defined_target, outer_target}
 use Rattle.ct_meaning_laws.specs.Names.{statement_names}
 use Rattle.ct_meaning.specs.Written.{defines}
 use Rattle.ct_phases.specs.Runner.{empty_function, main_function}
@@ -73,7 +73,7 @@ module _ (units : List CoreUnit) (table : List Definition) (budget : ℕ) (path 
       ∙ ap (λ (us : List CoreUnit). let space = unit_space W unit in record { space = space; number = text_count space us + text; offset = 0 })
       (take-append-le unit units (runner units table budget path ∷ []) (omega arith))
 
-  reached : (unit : ℕ) (name : List ℕ) (number : ℕ) → is_ordinary name ≡ true → number_of W unit name ≡ Some number → Reached number
+  reached : (unit : ℕ) (name : List ℕ) (number : ℕ) → is_ordinary name ≡ true → function_number W unit name ≡ Some number → Reached number
   reached unit name number ordinary e d at is =
       let here : name ≡ main = sym (named units table budget path unit number name d (numbers_same units table budget path unit name ∙ e) at) ∙ is in
       let wrong : is_ordinary main ≡ true = subst (λ (x : List ℕ). is_ordinary x ≡ true) here ordinary in cc

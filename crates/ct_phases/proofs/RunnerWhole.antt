@@ -18,7 +18,7 @@ use Rattle.ct_core.specs.Testing.{begun_test}
 use Rattle.ct_meaning.specs.declared.state.State.{State}
 use Rattle.ct_meaning.specs.declared.state.Ending.{Ending}
 use Rattle.ct_meaning.specs.declared.state.Ending.TheVariants.{Onward, Returned}
-use Rattle.ct_meaning.specs.Doing.{Outcome, Does, onwards, ◌>>◌}
+use Rattle.ct_meaning.specs.Doing.{ValueAndState, Does, onwards, ◌>>◌}
 use Rattle.ct_meaning.specs.World.{World, Where, Target, Defined, target_of, unit_space, space_of, text_pointer, text_count, common_number}
 use Rattle.ct_meaning.specs.Rules.{path_of, test_file, begun, begun_in, with_test, can_begin, in_test, without_test}
 use Rattle.ct_meaning.specs.Meaning.{Executes, enter, calls, statement, in_turn, then_go, within, body_of, initialise_parameters}
@@ -117,7 +117,7 @@ module _ (units : List CoreUnit) (table : List Definition) (budget : ℕ) (path 
     same_call : SameCall (InProject units table budget path project linked) here outermost
     same_call = record { level = refl; place = refl; known = tt }
 
-    abbrev goes : List CoreStatement → State → Outcome Ending
+    abbrev goes : List CoreStatement → State → ValueAndState Ending
     goes statements s = in_turn here (map (statement P k (calls P k)) statements) s
 
     turn : (b : CoreStatement) (all : List CoreStatement) (s t : State) → statement P k (calls P k) b here s ≡ (Some Onward, t) → goes (b ∷ all) s ≡ goes all t
@@ -237,7 +237,7 @@ module _ (units : List CoreUnit) (table : List Definition) (budget : ℕ) (path 
         → goes (all_statements text (entries fs)) (with_tool T t)
         ≡ (Some (Returned (Int (pos 0))), with_tool T (tests_state W (calls W j) (number_in set_up) (number_in tear_down) (map (test_of W) fs) t))
     all_tests [] text count t tests stands few between =
-        ap (λ (o : Outcome Ending). onwards o (λ (flow : Ending). then_go flow (in_turn here []))) (return_step P (calls P k) k here unplaced (with_tool T t))
+        ap (λ (o : ValueAndState Ending). onwards o (λ (flow : Ending). then_go flow (in_turn here []))) (return_step P (calls P k) k here unplaced (with_tool T t))
     all_tests (f ∷ fs) text count t tests stands few between =
         let next = between_next f tests.0 text stands.0.0 stands.0.1 count t between (omega arith) in
         one_test f tests.0 text stands.0.0 stands.0.1 count t between (omega arith) (all_statements (suc text) (entries fs))
@@ -282,9 +282,9 @@ module _ (units : List CoreUnit) (table : List Definition) (budget : ℕ) (path 
       let above : k ≤ enough budget = let is = enough_is k e in omega arith in
       main_number_is found.number found.is_number
       ∙ ap (λ (n : ℕ). (calls P n found.number [] outermost (first_state P)).1) (enough_is k e)
-      ∙ ap (λ (o : Outcome Ending). o.1) (main_means k found.number (first_state P) target)
+      ∙ ap (λ (o : ValueAndState Ending). o.1) (main_means k found.number (first_state P) target)
       ∙ ap (λ (s : State). (in_turn here (map (statement P k (calls P k)) (all_statements 0 (tests_in units))) s).1) first_same
-      ∙ ap (λ (o : Outcome Ending). o.1)
+      ∙ ap (λ (o : ValueAndState Ending). o.1)
       (all_tests k (enough budget) above tests 0 0 (first_state W) (tests_all units table budget path project linked) (standing [] 0 tests) few (begins_between k e))
 
   last_same : last_state P ≡ with_tool T (last_written_state W)

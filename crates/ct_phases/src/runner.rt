@@ -1,6 +1,7 @@
 //! The runner of a test file, and the log of the file by it.
 
 ghost use Rattle.std.specs.Prelude.{◌≡◌, ◌≢◌, ◌≤◌, ◌++◌, ◌∷◌, [], All, suc, pos, codes, map, slice_get, unwrap_or, IfOk, OnOk};
+ghost use Rattle.ct_base.specs.Limits.{most_steps};
 ghost use Rattle.ct_ctype.specs.declared.kinds.IntKind.TheVariants.{UnsignedInt};
 ghost use Rattle.ct_core.specs.declared.trees.CoreExpression.TheVariants.{Constant, Text as text_of};
 ghost use Rattle.ct_meaning.specs.Program.{plain_world, log_of};
@@ -28,7 +29,7 @@ const UNMARKED: Mark = Mark {
 
 /// The log of a test file that is one unit, which its runner makes.
 pub fn test_log(alloc: Global, unit: CoreUnit, budget: u64) -> Mem<RunLog>
-    requires budget { (1 ≤ budget) × (budget ≤ 10000000) }
+    requires budget { (1 ≤ budget) × (budget ≤ most_steps) }
     requires project { IsTestProject (unit ∷ []) }
     requires names { AreNamedApart (unit ∷ []) }
     requires main { All (λ f. f.name ≢ codes "main") unit.functions }
@@ -39,7 +40,7 @@ pub fn test_log(alloc: Global, unit: CoreUnit, budget: u64) -> Mem<RunLog>
 
 /// The log of a test file that is one unit, by the meaning of C alone: its runner is run.
 pub fn log_by_runner(alloc: Global, unit: CoreUnit, budget: u64) -> Mem<RunLog>
-    requires budget { (1 ≤ budget) × (budget ≤ 10000000) }
+    requires budget { (1 ≤ budget) × (budget ≤ most_steps) }
     ensures { IfOk result (λ log. log ≡ log_of (plain_world (unit ∷ runner_of (unwrap_or (slice_get unit.files 0) []) (unit ∷ []) ∷ []) (table_in_order (unit ∷ runner_of (unwrap_or (slice_get unit.files 0) []) (unit ∷ []) ∷ [])) budget)) }
 {
     let tests = runner(alloc, &unit)?;

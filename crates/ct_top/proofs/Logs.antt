@@ -8,18 +8,18 @@ use Rattle.ct_base.specs.declared.refusals.Refusal.{Refusal}
 use Rattle.ct_outside.specs.Files.{Files}
 use Rattle.ct_report.specs.declared.logs.RunLog.{RunLog}
 use Rattle.ct_top.specs.Meaning.{FileMeans}
-use Rattle.ct_top.specs.Project.{FilesMean, Outcome, text_at, with_log}
+use Rattle.ct_top.specs.Project.{FilesMean, LogsOrRefusal, text_at, with_log}
 
 -- these logs stand before those of an outcome
-abbrev pub behind : List RunLog → Outcome → Outcome
+abbrev pub behind : List RunLog → LogsOrRefusal → LogsOrRefusal
 behind logs (Ok more) = Ok (logs ++ more)
 behind logs (Err refusal) = Err refusal
 
-pub behind-none : (o : Outcome) → behind [] o ≡ o
+pub behind-none : (o : LogsOrRefusal) → behind [] o ≡ o
 behind-none (Ok more) = refl
 behind-none (Err refusal) = refl
 
-behind-with_log : (logs : List RunLog) (log : RunLog) (o : Outcome) → behind logs (with_log log o) ≡ behind (logs ++ log ∷ []) o
+behind-with_log : (logs : List RunLog) (log : RunLog) (o : LogsOrRefusal) → behind logs (with_log log o) ≡ behind (logs ++ log ∷ []) o
 behind-with_log logs log (Ok more) = ap Ok (sym (append_assoc logs (log ∷ []) more))
 behind-with_log logs log (Err refusal) = refl
 
@@ -35,8 +35,8 @@ from_here paths i path within is = rw add-one (go paths i within is)
 -- one more file was run
 pub ran_one : (files : Files) (paths : List (List ℕ)) (i : ℕ) (path text : List ℕ) (logs : List RunLog) (log : RunLog) → i < length paths → path ≡ get_or paths i path
     → text ≡ text_at files path → FileMeans path text (Ok log)
-    → ((o : Outcome) → FilesMean files (drop i paths) o → FilesMean files paths (behind logs o))
-    → (o : Outcome) → FilesMean files (drop (i + 1) paths) o → FilesMean files paths (behind (logs ++ log ∷ []) o)
+    → ((o : LogsOrRefusal) → FilesMean files (drop i paths) o → FilesMean files paths (behind logs o))
+    → (o : LogsOrRefusal) → FilesMean files (drop (i + 1) paths) o → FilesMean files paths (behind (logs ++ log ∷ []) o)
 ran_one files paths i path text logs log within is reads means so_far o rest =
     let means_here : FileMeans path (text_at files path) (Ok log) = subst (λ t. FileMeans path t (Ok log)) reads means in
     let here : FilesMean files (path ∷ drop (i + 1) paths) (with_log log o) = inr (log, o, means_here, rest, refl) in
@@ -46,7 +46,7 @@ ran_one files paths i path text logs log within is reads means so_far o rest =
 -- the next file is refused
 pub refused_here : (files : Files) (paths : List (List ℕ)) (i : ℕ) (path text : List ℕ) (logs : List RunLog) (refusal : Refusal) → i < length paths → path ≡ get_or paths i path
     → text ≡ text_at files path → FileMeans path text (Err refusal)
-    → ((o : Outcome) → FilesMean files (drop i paths) o → FilesMean files paths (behind logs o))
+    → ((o : LogsOrRefusal) → FilesMean files (drop i paths) o → FilesMean files paths (behind logs o))
     → FilesMean files paths (Err refusal)
 refused_here files paths i path text logs refusal within is reads means so_far =
     let means_here : FileMeans path (text_at files path) (Err refusal) = subst (λ t. FileMeans path t (Err refusal)) reads means in
@@ -55,7 +55,7 @@ refused_here files paths i path text logs refusal within is reads means so_far =
 
 -- all were run
 pub ran_all : (files : Files) (paths : List (List ℕ)) (i : ℕ) (logs : List RunLog) → drop i paths ≡ []
-    → ((o : Outcome) → FilesMean files (drop i paths) o → FilesMean files paths (behind logs o)) → FilesMean files paths (Ok logs)
+    → ((o : LogsOrRefusal) → FilesMean files (drop i paths) o → FilesMean files paths (behind logs o)) → FilesMean files paths (Ok logs)
 ran_all files paths i logs end so_far =
     subst (λ ls. FilesMean files paths (Ok ls)) (append-nil logs) (so_far (Ok []) (subst (λ ps. FilesMean files ps (Ok [])) (sym end) refl))
 
@@ -66,7 +66,7 @@ named_so path named text answer same means = subst (λ n. FileMeans n text answe
 -- running a file failed
 pub failed_here : (T : Type 0) (files : Files) (paths : List (List ℕ)) (i : ℕ) (path named text : List ℕ) (logs : List RunLog) (f : Fail Refusal)
     → i < length paths → path ≡ get_or paths i path → named ≡ path → text ≡ text_at files path
-    → OnAnswer {T = RunLog} (Err f) (FileMeans named text) → ((o : Outcome) → FilesMean files (drop i paths) o → FilesMean files paths (behind logs o))
+    → OnAnswer {T = RunLog} (Err f) (FileMeans named text) → ((o : LogsOrRefusal) → FilesMean files (drop i paths) o → FilesMean files paths (behind logs o))
     → IfFault {T = T} (Err f) (λ refusal. FilesMean files paths (Err refusal))
 failed_here T files paths i path named text logs (Fault refusal) within is same reads means so_far =
     refused_here files paths i path text logs refusal within is reads (subst (λ n. FileMeans n text (Err refusal)) same means) so_far

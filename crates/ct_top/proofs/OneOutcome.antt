@@ -22,7 +22,7 @@ use Rattle.ct_core.specs.declared.units.CoreUnit.{CoreUnit}
 use Rattle.ct_form.specs.declared.outside.Outside.{Outside}
 use Rattle.ct_form.specs.Form.{HasForm}
 use Rattle.ct_top.specs.Meaning.{FileMeans, answer_of, open_comment}
-use Rattle.ct_top.specs.Project.{FilesMean, HasOutcome, IsSameTest, LongTextMeans, Outcome, ProjectMeans, SearchMeans, SettingsMean, TestsMean, TextMeans, base_name, limit_passed, no_yaml, project_path, same_test, text_at, with_log}
+use Rattle.ct_top.specs.Project.{FilesMean, HasOutcome, IsSameTest, LongTextMeans, LogsOrRefusal, ProjectMeans, SearchMeans, SettingsMean, TestsMean, TextMeans, base_name, limit_passed, no_yaml, project_path, same_test, text_at, with_log}
 use Rattle.ct_top.proofs.Members.{contains_first, contains_more, contains_cases, contains_none}
 use Rattle.ct_find.proofs.OneFinding.{one_set}
 
@@ -109,7 +109,7 @@ module _ (one : (file : ℕ) (text : List ℕ) (a b : List Token) → IsTokeniza
       let form = one_form path g.0 f.2.0 g.2.0 (subst (λ ts. HasForm path ts f.2.0) tokens f.2.1) g.2.1 in
       f.2.2 ∙ ap (answer_of path) form ∙ sym g.2.2
 
-  files-unique : (files : Files) (paths : List (List ℕ)) (a b : Outcome) → FilesMean files paths a → FilesMean files paths b → a ≡ b
+  files-unique : (files : Files) (paths : List (List ℕ)) (a b : LogsOrRefusal) → FilesMean files paths a → FilesMean files paths b → a ≡ b
   files-unique files [] a b f g = f ∙ sym g
   files-unique files (path ∷ paths) a b (inl f) (inl g) =
       f.2 ∙ ap Err (same_refusal f.0 g.0 (file-unique path (text_at files path) (Err f.0) (Err g.0) f.1 g.1)) ∙ sym g.2
@@ -122,13 +122,13 @@ module _ (one : (file : ℕ) (text : List ℕ) (a b : List Token) → IsTokeniza
       let others : f.1 ≡ g.1 = files-unique files paths f.1 g.1 f.3 g.3 in
       f.4 ∙ ap (λ l. with_log l f.1) log ∙ ap (λ o. with_log g.0 o) others ∙ sym g.4
 
-  tests-unique : (files : Files) (tests : List (List ℕ)) (a b : Outcome) → TestsMean files tests a → TestsMean files tests b → a ≡ b
+  tests-unique : (files : Files) (tests : List (List ℕ)) (a b : LogsOrRefusal) → TestsMean files tests a → TestsMean files tests b → a ≡ b
   tests-unique files tests a b (inl f) (inl g) = f.2 ∙ ap (λ p. Err (same_test p)) (one_same tests f.0 g.0 f.1 g.1) ∙ sym g.2
   tests-unique files tests a b (inl f) (inr g) = absurd (none_same tests f.0 f.1 g.0)
   tests-unique files tests a b (inr f) (inl g) = absurd (none_same tests g.0 g.1 f.0)
   tests-unique files tests a b (inr f) (inr g) = files-unique files tests a b f.1 g.1
 
-  search-unique : (files : Files) (settings : ProjectSettings) (a b : Outcome) → SearchMeans files settings a → SearchMeans files settings b → a ≡ b
+  search-unique : (files : Files) (settings : ProjectSettings) (a b : LogsOrRefusal) → SearchMeans files settings a → SearchMeans files settings b → a ≡ b
   search-unique files settings a b (inl f) (inl g) =
       let tests = one_set (IsTest settings files) f.0.tests g.0.tests f.1.1.tests g.1.1.tests in
       tests-unique files g.0.tests a b (subst (λ ts. TestsMean files ts a) tests f.2) g.2
@@ -138,11 +138,11 @@ module _ (one : (file : ℕ) (text : List ℕ) (a b : List Token) → IsTokeniza
       let same = one_limit settings files f.0 g.0 f.1 g.1 f.2 g.2 in
       f.3 ∙ ap (λ kind. Err (limit_passed kind f.1)) same.0 ∙ ap (λ path. Err (limit_passed g.0 path)) same.1 ∙ sym g.3
 
-  settings-unique : (files : Files) (read : Result ProjectSettings SettingFault) (a b : Outcome) → SettingsMean files read a → SettingsMean files read b → a ≡ b
+  settings-unique : (files : Files) (read : Result ProjectSettings SettingFault) (a b : LogsOrRefusal) → SettingsMean files read a → SettingsMean files read b → a ≡ b
   settings-unique files (Err fault) a b f g = f ∙ sym g
   settings-unique files (Ok settings) a b f g = search-unique files settings a b f g
 
-  text-unique : (files : Files) (text : List ℕ) (a b : Outcome) → TextMeans files text a → TextMeans files text b → a ≡ b
+  text-unique : (files : Files) (text : List ℕ) (a b : LogsOrRefusal) → TextMeans files text a → TextMeans files text b → a ≡ b
   text-unique files text a b (inl f) (inl g) =
       let node = one_node (text_lines text) f.0 g.0 f.1 g.1 in
       settings-unique files (settings_of g.0) a b (subst (λ n. SettingsMean files (settings_of n) a) node f.2) g.2
@@ -150,13 +150,13 @@ module _ (one : (file : ℕ) (text : List ℕ) (a b : List Token) → IsTokeniza
   text-unique files text a b (inr f) (inl g) = absurd (f.1.0 g.0 g.1)
   text-unique files text a b (inr f) (inr g) = f.2 ∙ ap (λ n. Err (no_yaml n)) (one_line (text_lines text) f.0 g.0 f.1.1 g.1.1) ∙ sym g.2
 
-  long-unique : (long : Bool) (files : Files) (text : List ℕ) (a b : Outcome) → LongTextMeans long files text a → LongTextMeans long files text b → a ≡ b
+  long-unique : (long : Bool) (files : Files) (text : List ℕ) (a b : LogsOrRefusal) → LongTextMeans long files text a → LongTextMeans long files text b → a ≡ b
   long-unique true files text a b f g = f ∙ sym g
   long-unique false files text a b f g = text-unique files text a b f g
 
-  project-unique : (files : Files) (text : Option (List ℕ)) (a b : Outcome) → ProjectMeans files text a → ProjectMeans files text b → a ≡ b
+  project-unique : (files : Files) (text : Option (List ℕ)) (a b : LogsOrRefusal) → ProjectMeans files text a → ProjectMeans files text b → a ≡ b
   project-unique files None a b f g = f ∙ sym g
   project-unique files (Some text) a b f g = long-unique (nat_lt most_file_bytes (length text)) files text a b f g
 
-  pub HasOutcome-unique : (files : Files) (a b : Outcome) → HasOutcome files a → HasOutcome files b → a ≡ b
+  pub HasOutcome-unique : (files : Files) (a b : LogsOrRefusal) → HasOutcome files a → HasOutcome files b → a ≡ b
   HasOutcome-unique files a b f g = project-unique files (get files project_path) a b f g

@@ -16,7 +16,7 @@ use Rattle.ct_settings.specs.declared.record.ProjectSettings.{ProjectSettings}
 use Rattle.ct_settings.specs.Table.{settings_of}
 use Rattle.ct_yaml.specs.declared.node.Node.{Node}
 use Rattle.ct_yaml.specs.Text.{text_lines, SpellsNode}
-use Rattle.ct_top.specs.Project.{HasOutcome, LongTextMeans, Outcome, ProjectMeans, SearchMeans, SettingsMean, TextMeans, limit_passed, project_path}
+use Rattle.ct_top.specs.Project.{HasOutcome, LongTextMeans, LogsOrRefusal, ProjectMeans, SearchMeans, SettingsMean, TextMeans, limit_passed, project_path}
 
 long_text : (files : Files) (text : Option (List ℕ)) → IsSomeAnd text (λ bytes. most_file_bytes < length bytes)
     → ProjectMeans files text (Err (limit_passed FileBytes project_path))
@@ -38,7 +38,7 @@ too_large told files found old text refusal tells is reads named =
     subst (λ r. HasOutcome files (Err r)) (sym named) (long_text files (get files project_path) long)
 
 -- the text is not too long, so it decides
-pub short_text : (files : Files) (text : List ℕ) (outcome : Outcome) → get files project_path ≡ Some text → length text ≤ most_file_bytes
+pub short_text : (files : Files) (text : List ℕ) (outcome : LogsOrRefusal) → get files project_path ≡ Some text → length text ≤ most_file_bytes
     → TextMeans files text outcome → HasOutcome files outcome
 short_text files text outcome is short means =
     let test : nat_lt most_file_bytes (length text) ≡ false = grind (arith, nat_tests) in
@@ -48,7 +48,7 @@ short_text files text outcome is short means =
 -- the text spells a node, so its settings decide
 pub text_goes_on : (text : List ℕ) (node : Node) (r : Result ProjectSettings (Fail Refusal)) → SpellsNode (text_lines text) node
     → IfOk r (λ settings. settings_of node ≡ Ok settings)
-    → IfOk r (λ settings. (files : Files) (outcome : Outcome) → SearchMeans files settings outcome → TextMeans files text outcome)
+    → IfOk r (λ settings. (files : Files) (outcome : LogsOrRefusal) → SearchMeans files settings outcome → TextMeans files text outcome)
 text_goes_on text node (Ok settings) spells is =
     λ files outcome means. inl (node, spells, subst (λ answer. SettingsMean files answer outcome) (sym is) means)
 text_goes_on text node (Err fail) spells is = tt

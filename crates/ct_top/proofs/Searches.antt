@@ -8,11 +8,11 @@ use Rattle.ct_find.specs.Results.{Finds}
 use Rattle.ct_outside.specs.Files.{Files}
 use Rattle.ct_settings.specs.declared.record.ProjectSettings.{ProjectSettings}
 use Rattle.ct_top.specs.Meaning.{FileMeans}
-use Rattle.ct_top.specs.Project.{FilesMean, Outcome, SearchMeans, TestsMean, text_at}
+use Rattle.ct_top.specs.Project.{FilesMean, LogsOrRefusal, SearchMeans, TestsMean, text_at}
 use Rattle.ct_top.proofs.Members.{contains_first, contains_more}
 
 -- the same texts of these paths mean the same
-files_mean : (texts files : Files) (paths : List (List ℕ)) (o : Outcome) → ((path : List ℕ) → Contains paths path → get texts path ≡ get files path)
+files_mean : (texts files : Files) (paths : List (List ℕ)) (o : LogsOrRefusal) → ((path : List ℕ) → Contains paths path → get texts path ≡ get files path)
     → FilesMean texts paths o → FilesMean files paths o
 files_mean texts files [] o same means = means
 files_mean texts files (path ∷ paths) o same (inl h) =
@@ -28,13 +28,13 @@ files_mean texts files (path ∷ paths) o same (inr h) =
       h.4,
     )
 
-tests_mean : (texts files : Files) (paths : List (List ℕ)) (o : Outcome) → ((path : List ℕ) → Contains paths path → get texts path ≡ get files path)
+tests_mean : (texts files : Files) (paths : List (List ℕ)) (o : LogsOrRefusal) → ((path : List ℕ) → Contains paths path → get texts path ≡ get files path)
     → TestsMean texts paths o → TestsMean files paths o
 tests_mean texts files paths o same (inl h) = inl h
 tests_mean texts files paths o same (inr h) = inr (h.0, files_mean texts files paths o same h.1)
 
 -- what the tests mean that were found, the project means
 pub search_goes_on : (settings : ProjectSettings) (files : Files) (found : Found) → Finds settings files (Ok found)
-    → (o : Outcome) → TestsMean found.texts found.tests o → SearchMeans files settings o
+    → (o : LogsOrRefusal) → TestsMean found.texts found.tests o → SearchMeans files settings o
 search_goes_on settings files found finds o means =
     inl (found, finds, tests_mean found.texts files found.tests o (λ path m. finds.1.texts.listed path (inl ((finds.1.tests.each path).0 m))) means)

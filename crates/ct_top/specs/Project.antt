@@ -102,19 +102,19 @@ abbrev pub text_at : Files → List ℕ → List ℕ
 text_at files path = unwrap_or (get files path) []
 
 -- the logs of the test files that are run, in order, or the first refusal
-abbrev pub Outcome : Type 0
-Outcome = Result (List RunLog) Refusal
+abbrev pub LogsOrRefusal : Type 0
+LogsOrRefusal = Result (List RunLog) Refusal
 
-abbrev pub with_log : RunLog → Outcome → Outcome
+abbrev pub with_log : RunLog → LogsOrRefusal → LogsOrRefusal
 with_log log (Ok logs) = Ok (log ∷ logs)
 with_log log (Err refusal) = Err refusal
 
 -- The first file that is refused refuses the project, and then no later one counts. Else each has its log.
-abbrev pub FilesMean : Files → List (List ℕ) → Outcome → Type 0
+abbrev pub FilesMean : Files → List (List ℕ) → LogsOrRefusal → Type 0
 FilesMean files [] outcome = outcome ≡ Ok []
 FilesMean files (path ∷ paths) outcome =
     ((refusal : Refusal) × FileMeans path (text_at files path) (Err refusal) × (outcome ≡ Err refusal))
-    ⊎ ((log : RunLog) × (others : Outcome) × FileMeans path (text_at files path) (Ok log) × FilesMean files paths others × (outcome ≡ with_log log others))
+    ⊎ ((log : RunLog) × (others : LogsOrRefusal) × FileMeans path (text_at files path) (Ok log) × FilesMean files paths others × (outcome ≡ with_log log others))
 
 -- The path is the first whose base name one before it has.
 pub record IsSameTest (paths : List (List ℕ)) (path : List ℕ) : Type 0 where
@@ -125,7 +125,7 @@ pub record IsSameTest (paths : List (List ℕ)) (path : List ℕ) : Type 0 where
   pub again : Contains (map base_name before) (base_name path)
 
 -- two test files with one base name refuse the project, before any test file is translated
-abbrev pub TestsMean : Files → List (List ℕ) → Outcome → Type 0
+abbrev pub TestsMean : Files → List (List ℕ) → LogsOrRefusal → Type 0
 TestsMean files tests outcome =
     ((path : List ℕ) × IsSameTest tests path × (outcome ≡ Err (same_test path)))
     ⊎ (EachOnce (map base_name tests) × FilesMean files tests outcome)
@@ -133,12 +133,12 @@ TestsMean files tests outcome =
 -- ---- the project
 
 -- what is found, or the limit that listing or reading passes
-abbrev pub SearchMeans : Files → ProjectSettings → Outcome → Type 0
+abbrev pub SearchMeans : Files → ProjectSettings → LogsOrRefusal → Type 0
 SearchMeans files settings outcome =
     ((found : Found) × Finds settings files (Ok found) × TestsMean files found.tests outcome)
     ⊎ ((kind : LimitKind) × (path : List ℕ) × Finds settings files (Err (Fault (Limit kind path))) × (outcome ≡ Err (limit_passed kind path)))
 
-abbrev pub SettingsMean : Files → Result ProjectSettings SettingFault → Outcome → Type 0
+abbrev pub SettingsMean : Files → Result ProjectSettings SettingFault → LogsOrRefusal → Type 0
 SettingsMean files (Err fault) outcome = outcome ≡ Err (bad_setting fault)
 SettingsMean files (Ok settings) outcome = SearchMeans files settings outcome
 
@@ -147,22 +147,22 @@ abbrev pub IsNoYaml : List ℕ → ℕ → Type 0
 IsNoYaml text line = ((node : Node) → SpellsNode (text_lines text) node → ⊥) × IsFaultLine (text_lines text) line
 
 -- the text of the project file spells a node, or is refused at a line
-abbrev pub TextMeans : Files → List ℕ → Outcome → Type 0
+abbrev pub TextMeans : Files → List ℕ → LogsOrRefusal → Type 0
 TextMeans files text outcome =
     ((node : Node) × SpellsNode (text_lines text) node × SettingsMean files (settings_of node) outcome)
     ⊎ ((line : ℕ) × IsNoYaml text line × (outcome ≡ Err (no_yaml line)))
 
 -- it is not read where it is too long
-abbrev pub LongTextMeans : Bool → Files → List ℕ → Outcome → Type 0
+abbrev pub LongTextMeans : Bool → Files → List ℕ → LogsOrRefusal → Type 0
 LongTextMeans true files text outcome = outcome ≡ Err (limit_passed limits.FileBytes project_path)
 LongTextMeans false files text outcome = TextMeans files text outcome
 
-abbrev pub ProjectMeans : Files → Option (List ℕ) → Outcome → Type 0
+abbrev pub ProjectMeans : Files → Option (List ℕ) → LogsOrRefusal → Type 0
 ProjectMeans files None outcome = outcome ≡ Err no_project
 ProjectMeans files (Some text) outcome = LongTextMeans (nat_lt most_file_bytes (length text)) files text outcome
 
 -- A project of these files has this outcome.
-abbrev pub HasOutcome : Files → Outcome → Type 0
+abbrev pub HasOutcome : Files → LogsOrRefusal → Type 0
 HasOutcome files outcome = ProjectMeans files (get files project_path) outcome
 
 -- `ERROR: FILE:LINE: TEXT`
@@ -171,10 +171,10 @@ refusal_line refusal =
     codes "ERROR: " ++ refusal.file ++ codes ":" ++ decimal refusal.line ++ codes ": " ++ refusal.text ++ 10 ∷ []
 
 -- what is written for an outcome: the report, or the one line of the refusal
-abbrev pub output_of : Outcome → List ℕ
+abbrev pub output_of : LogsOrRefusal → List ℕ
 output_of (Ok logs) = report_of logs
 output_of (Err refusal) = refusal_line refusal
 
-abbrev pub status_after : Outcome → Status
+abbrev pub status_after : LogsOrRefusal → Status
 status_after (Ok logs) = status_of logs
 status_after (Err refusal) = Refused

@@ -2,7 +2,7 @@
 
 ghost use Rattle.std.specs.Prelude.{◌≡◌};
 ghost use Rattle.ct_outside.specs.Files.{Files};
-ghost use Rattle.ct_top.specs.Project.{HasOutcome, Outcome};
+ghost use Rattle.ct_top.specs.Project.{HasOutcome, LogsOrRefusal};
 
 use ct_find::one_finding;
 use ct_form::one_form;
@@ -10,7 +10,7 @@ use ct_token::{one_open_comment, one_tokenization};
 
 /// A project has at most one outcome: the one that a clause of `run` names is the only one.
 pub fn one_outcome()
-    ensures { (files : Files) (a b : Outcome) → HasOutcome files a → HasOutcome files b → a ≡ b }
+    ensures { (files : Files) (a b : LogsOrRefusal) → HasOutcome files a → HasOutcome files b → a ≡ b }
 {
     one_finding();
     one_form();

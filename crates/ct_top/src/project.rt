@@ -7,7 +7,7 @@ ghost use Rattle.ct_find.specs.Limits.{most_file_bytes};
 ghost use Rattle.ct_outside.specs.Files.{Files};
 ghost use Rattle.ct_settings.specs.Table.{settings_of};
 ghost use Rattle.ct_settings.specs.declared.record.SettingFault.{SettingFault};
-ghost use Rattle.ct_top.specs.Project.{HasOutcome, IsNoYaml, Outcome, SearchMeans, TextMeans, bad_setting, no_yaml, project_path};
+ghost use Rattle.ct_top.specs.Project.{HasOutcome, IsNoYaml, LogsOrRefusal, SearchMeans, TextMeans, bad_setting, no_yaml, project_path};
 ghost use Rattle.ct_top.specs.Stops.{FaultsAfter, IfRefused};
 ghost use Rattle.ct_yaml.specs.Text.{SpellsNode, text_lines};
 
@@ -75,7 +75,7 @@ fn settings_of(alloc: Global, node: &Node) -> Out<ProjectSettings, Refusal>
 /// The settings of the text of a project file.
 fn settings_of_text(alloc: Global, text: &[u8]) -> Out<ProjectSettings, Refusal>
     requires { length text.now ≤ most_file_bytes }
-    ensures ok { IfOk result (λ settings. (files : Files) (outcome : Outcome) → SearchMeans files settings outcome → TextMeans files text.now outcome) }
+    ensures ok { IfOk result (λ settings. (files : Files) (outcome : LogsOrRefusal) → SearchMeans files settings outcome → TextMeans files text.now outcome) }
     ensures refused { IfFault result (λ refusal. (files : Files) → TextMeans files text.now (Err refusal)) }
 {
     let node = node_of(alloc, text)?;
@@ -85,7 +85,7 @@ fn settings_of_text(alloc: Global, text: &[u8]) -> Out<ProjectSettings, Refusal>
 /// The settings of a project.
 pub fn project_settings<T: Tree>(alloc: Global, tree: &mut T) -> Result<ProjectSettings, Stop>
     ensures goes_on { (files : Files) → T.files tree.old ≡ Some files →
-        IfOk result (λ settings. (outcome : Outcome) → SearchMeans files settings outcome → HasOutcome files outcome) }
+        IfOk result (λ settings. (outcome : LogsOrRefusal) → SearchMeans files settings outcome → HasOutcome files outcome) }
     ensures refused { (files : Files) → T.files tree.old ≡ Some files → IfRefused result (λ refusal. HasOutcome files (Err refusal)) }
     ensures same_files { T.files tree.new ≡ T.files tree.old }
     ensures faults { FaultsAfter result (T.read_faults tree.old) (T.read_faults tree.new) }

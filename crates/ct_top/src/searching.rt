@@ -5,7 +5,7 @@ ghost use Rattle.std.specs.FinMap.{get};
 ghost use Rattle.ct_find.specs.Limits.{most_file_bytes};
 ghost use Rattle.ct_find.specs.Results.{Finds};
 ghost use Rattle.ct_outside.specs.Files as outside;
-ghost use Rattle.ct_top.specs.Project.{Outcome, SearchMeans};
+ghost use Rattle.ct_top.specs.Project.{LogsOrRefusal, SearchMeans};
 ghost use Rattle.ct_top.specs.Stops.{FaultsAfter, IfRefused};
 
 use crate::refusing::limit_passed;

@@ -9,7 +9,7 @@ ghost use Rattle.ct_outside.specs.Counts.{Rose};
 ghost use Rattle.ct_outside.specs.Files as outside;
 ghost use Rattle.ct_outside.specs.Taken.{Took};
 ghost use Rattle.ct_report.specs.Report.{report_of};
-ghost use Rattle.ct_top.specs.Project.{HasOutcome, Outcome, TestsMean, output_of, status_after};
+ghost use Rattle.ct_top.specs.Project.{HasOutcome, LogsOrRefusal, TestsMean, output_of, status_after};
 ghost use Rattle.ct_top.specs.Stops.{AnswerFaultsAfter, Ends, FaultsAfter, IfRefused, ReadFaultsAfter, SinkFaultsAfter, WriteFaultsAfter};
 ghost use Rattle.ct_top.specs.Words.{IsTestAll, usage_line};
 
@@ -43,13 +43,13 @@ pub fn run<T: Tree, S: Sink>(alloc: Global, words: &[String], tree: &mut T, out:
         → (Rose (T.write_faults tree.old) (T.write_faults tree.new) → ⊥)
         → (Rose (S.faults out.old) (S.faults out.new) → ⊥)
         → (result ≡ OutOfMemory → ⊥)
-        → (outcome : Outcome) × HasOutcome files outcome
+        → (outcome : LogsOrRefusal) × HasOutcome files outcome
         × (S.taken out.new ≡ Some (before ++ output_of outcome)) × (result ≡ status_after outcome) }
 
     // Whatever is told: the whole text of some outcome was written with its status, or a front of it where the
     // sink failed. Where the tree tells its files, the outcome is the project's.
     ensures outcome { IsTestAll words.now → (result ≡ ReadFault → ⊥) → (result ≡ OutOfMemory → ⊥)
-        → (outcome : Outcome) × Ends result (S.taken out.old) (S.taken out.new) (output_of outcome) (status_after outcome)
+        → (outcome : LogsOrRefusal) × Ends result (S.taken out.old) (S.taken out.new) (output_of outcome) (status_after outcome)
         × ((files : outside.Files) → T.files tree.old ≡ Some files → HasOutcome files outcome) }
 
     // The usage line comes exactly where the words are no command, and then nothing else does.
@@ -85,7 +85,7 @@ struct Answer {
 
 /// The answer to `test:all`, or the status of a run that ends before anything is written.
 fn answer_to<T: Tree>(alloc: Global, tree: &mut T) -> Result<Answer, Status>
-    ensures ok { IfOk result (λ answer. (outcome : Outcome) × (answer.text.items ≡ output_of outcome) × (answer.status ≡ status_after outcome)
+    ensures ok { IfOk result (λ answer. (outcome : LogsOrRefusal) × (answer.text.items ≡ output_of outcome) × (answer.status ≡ status_after outcome)
         × ((files : outside.Files) → T.files tree.old ≡ Some files → HasOutcome files outcome)) }
     ensures err { IfErr result (λ status. (status ≡ ReadFault) ⊎ (status ≡ OutOfMemory)) }
     ensures faults { AnswerFaultsAfter result (T.read_faults tree.old) (T.read_faults tree.new) }

@@ -4,7 +4,7 @@ use Rattle.std.specs.declared.alloc.Global.{Global}
 use Rattle.std.proofs.lemmas.Result.{err_from_is_err_and}
 use Rattle.ct_find.specs.declared.files.Files.{Files as Found}
 use Rattle.ct_report.specs.declared.logs.RunLog.{RunLog}
-use Rattle.ct_top.specs.Project.{HasOutcome, Outcome, SearchMeans, TestsMean}
+use Rattle.ct_top.specs.Project.{HasOutcome, LogsOrRefusal, SearchMeans, TestsMean}
 use Rattle.ct_top.proofs.Searches.{search_goes_on}
 use Rattle.ct_top.proofs.Stopping.{fault_on, refused_on}
 use Rattle.ct_top.proofs.top.logs_of_project.Goals as goal
@@ -22,7 +22,7 @@ returns-in_err-logs_of_tests-clause-refused g c files told =
     let p = err_from_is_err_and c.from_residual-in_err-logs_of_tests.result c.from_residual-in_err-logs_of_tests.ensures.1 in
     let found = c.in_ok-files.files in
     let finds = c.in_ok-files.ensures.told files (c.in_ok-settings.ensures.same_files ∙ told) in
-    let run : (o : Outcome) → TestsMean found.texts found.tests o → HasOutcome files o =
+    let run : (o : LogsOrRefusal) → TestsMean found.texts found.tests o → HasOutcome files o =
     λ o means. c.in_ok-settings.ensures.goes_on files told o (search_goes_on c.in_ok-settings.settings files found finds o means) in
     rw p.1
     (fault_on (Vec RunLog Global) (Vec RunLog Global) (TestsMean found.texts found.tests) (HasOutcome files) c.in_err-logs_of_tests.field-0.0 p.0 p.2 run

@@ -5,7 +5,7 @@ use Rattle.ct_core.specs.declared.trees.CoreExpression.{CoreExpression}
 use Rattle.ct_core.specs.declared.trees.CoreExpression.TheVariants.{Call, Function}
 use Rattle.ct_form.specs.declared.names.Signature.{Signature}
 use Rattle.ct_form.specs.Expressions.{IsExpression, IsSum, IsUnit, IsCall, IsArguments, IsList, IsGroup, IsValueOfCall, sum, less, whole, number, variable, named, none, some}
-use Rattle.ct_form.specs.Names.{callee, number_of, type_of}
+use Rattle.ct_form.specs.Names.{callee, variable_number, type_of}
 use Rattle.ct_form.proofs.Misses.{missed, handed_on, passed_on}
 use Rattle.ct_form.proofs.Shorter.{unit-shorter, sign-shorter, expression-shorter}
 use Rattle.ct_form.proofs.OneWord.{Stands-shorter}
@@ -133,12 +133,12 @@ unit-returns-in-Ok-word t c =
 
 pub unit-returns-in_default-number_of : goal.unit-returns-in_default-number_of
 unit-returns-in_default-number_of t c =
-    let e : number_of c.args.self.now.scope.now c.in_ok-name.name.now.text ≡ None = search rules in
+    let e : variable_number c.args.self.now.scope.now c.in_ok-name.name.now.text ≡ None = search rules in
     no_variable c.args.self.now.functions.now c.args.self.now.scope.now c.in_ok-name.ensures.found c.in_default-word.ensures.absent e
 
 pub unit-returns : goal.unit-returns
 unit-returns t c =
-    let e : number_of c.args.self.now.scope.now c.in_ok-name.name.now.text ≡ Some c.in-Some-number_of.variable = search rules in
+    let e : variable_number c.args.self.now.scope.now c.in_ok-name.name.now.text ≡ Some c.in-Some-number_of.variable = search rules in
     subst (λ (x : CoreExpression). IsUnit c.args.self.now.functions.now c.args.self.now.scope.now c.args.room c.args.tokens.now x c.in_ok-name.rest.now) (sym c.in_ok-value_of.ensures)
     (variable c.in_ok-name.ensures.found c.in_default-word.ensures.absent e)
 

@@ -6,7 +6,7 @@ use Rattle.ct_core.specs.declared.trees.CoreStatement.{CoreStatement}
 use Rattle.ct_form.specs.declared.names.Signature.{Signature}
 use Rattle.ct_form.specs.declared.places.Place.{Place}
 use Rattle.ct_form.specs.Expressions.{IsExpression, IsCall}
-use Rattle.ct_form.specs.Names.{number_of}
+use Rattle.ct_form.specs.Names.{variable_number}
 use Rattle.ct_form.specs.Readers.{at_of}
 use Rattle.ct_form.specs.Statements.{IsStatement, IsPair, parentheses}
 use Rattle.ct_form.proofs.Misses.{handed_on}
@@ -15,7 +15,7 @@ use Rattle.ct_form.proofs.statements.Context.assignment.Goals as goal
 
 pub returns-in_default : goal.returns-in_default
 returns-in_default c room =
-    let e : number_of c.args.scope.now c.args.target.now.text ≡ None = search rules in
+    let e : variable_number c.args.scope.now c.args.target.now.text ≡ None = search rules in
     no_assignment_variable c.args.self.now.functions.now c.args.self.now.unity c.args.self.now.gives_value c.requires.name c.requires.sign e
 
 pub returns-in_err-value : goal.returns-in_err-value
@@ -31,5 +31,5 @@ returns-in_err-rest c room =
 
 pub returns : goal.returns
 returns c room =
-    let e : number_of c.args.scope.now c.args.target.now.text ≡ Some c.in-Some.variable = search rules in
+    let e : variable_number c.args.scope.now c.args.target.now.text ≡ Some c.in-Some.variable = search rules in
     is_assignment c.args.self.now.functions.now c.args.self.now.unity c.args.self.now.gives_value c.requires.name c.requires.sign c.mark-mark.ensures e c.in_ok-value.ensures c.in_ok-rest.ensures.found c.in_ok-object.ensures c.in_ok-stored.ensures c.in_ok-place.ensures

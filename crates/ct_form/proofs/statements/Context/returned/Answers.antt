@@ -6,7 +6,7 @@ use Rattle.ct_core.specs.declared.trees.CoreStatement.{CoreStatement}
 use Rattle.ct_form.specs.declared.names.Signature.{Signature}
 use Rattle.ct_form.specs.declared.places.Place.{Place}
 use Rattle.ct_form.specs.Expressions.{IsExpression, IsCall}
-use Rattle.ct_form.specs.Names.{number_of}
+use Rattle.ct_form.specs.Names.{variable_number}
 use Rattle.ct_form.specs.Readers.{at_of}
 use Rattle.ct_form.specs.Statements.{IsStatement, IsPair, parentheses}
 use Rattle.ct_form.proofs.Misses.{handed_on}
