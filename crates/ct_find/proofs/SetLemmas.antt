@@ -53,14 +53,17 @@ pub sorted_one : (x : List ℕ) → IsSorted (slice_cmp nat_cmp) (x ∷ [])
 sorted_one x k d low within = absurd (omega arith)
 
 -- the texts of what `dedup` leaves
+dedup_at : (b : Bool) (x y : String Global) (xs : List (String Global))
+    → texts_of (dedup_from string_eq x xs) ≡ dedup_from bytes_eq (string_bytes x) (texts_of xs)
+    → texts_of (dedup_from string_eq y xs) ≡ dedup_from bytes_eq (string_bytes y) (texts_of xs)
+    → texts_of (cond b (dedup_from string_eq x xs) (x ∷ dedup_from string_eq y xs))
+        ≡ cond b (dedup_from bytes_eq (string_bytes x) (texts_of xs)) (string_bytes x ∷ dedup_from bytes_eq (string_bytes y) (texts_of xs))
+dedup_at true x y xs same other = same
+dedup_at false x y xs same other = ap (λ (ts : List (List ℕ)). string_bytes x ∷ ts) other
+
 dedup_from_texts : (x : String Global) (xs : List (String Global)) → texts_of (dedup_from string_eq x xs) ≡ dedup_from bytes_eq (string_bytes x) (texts_of xs)
 dedup_from_texts x [] = refl
-dedup_from_texts x (y ∷ xs) = at (string_eq y x)
-  where
-    at : (b : Bool) → texts_of (cond b (dedup_from string_eq x xs) (x ∷ dedup_from string_eq y xs))
-        ≡ cond b (dedup_from bytes_eq (string_bytes x) (texts_of xs)) (string_bytes x ∷ dedup_from bytes_eq (string_bytes y) (texts_of xs))
-    at true = dedup_from_texts x xs
-    at false = ap (λ (ts : List (List ℕ)). string_bytes x ∷ ts) (dedup_from_texts y xs)
+dedup_from_texts x (y ∷ xs) = dedup_at (string_eq y x) x y xs (dedup_from_texts x xs) (dedup_from_texts y xs)
 
 dedup_texts : (xs : List (String Global)) → texts_of (dedup string_eq xs) ≡ dedup bytes_eq (texts_of xs)
 dedup_texts [] = refl
@@ -77,7 +80,7 @@ strict_once (p ∷ ps) h = (
 )
 
 strict_sorted : (paths : List (List ℕ)) → IsStrictlySortedBy (slice_cmp nat_cmp) paths → IsSorted (slice_cmp nat_cmp) paths
-strict_sorted [] h k d low within = absurd (omega arith)
+strict_sorted [] h = λ k d low within. absurd (omega arith)
 strict_sorted (p ∷ []) h = sorted_one p
 strict_sorted (p ∷ q ∷ ps) h =
     let less : slice_cmp nat_cmp p q ≡ Less = All-contains (λ x. slice_cmp nat_cmp p x ≡ Less) (q ∷ ps) q (All-after_first (slice_cmp nat_cmp) p (q ∷ ps) h) (contains_first q ps) in
