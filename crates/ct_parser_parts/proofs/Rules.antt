@@ -1,5 +1,5 @@
 -- Lists with one more at their end, and nodes with lists.
-use Rattle.std.proofs.Common.{◌≡◌, Bool, true, false, map, option_map, List, [], ◌∷◌, ◌++◌, Option, Some, None, refl, sym, ap, ◌∙◌, Vec, Box, Global}
+use Rattle.std.proofs.Common.{◌≡◌, Bool, true, false, map, option_map, List, [], ◌∷◌, ◌++◌, Option, Some, None, refl, sym, ap, ap₂, ◌∙◌, subst, Vec, Box, Global}
 use Rattle.ct_base.specs.declared.lexical.Span.{Span}
 use Rattle.ct_syntax.specs.Words.{Text}
 use Rattle.ct_syntax.specs.Trees as t
@@ -24,7 +24,8 @@ use Rattle.ct_syntax.specs.declared.statements.BlockItem.TheVariants as b
 use Rattle.ct_syntax.proofs.Views.{view_Call, view_SizeofType, view_Cast, view_StructList, view_EnumList, view_Array, view_Function}
 use Rattle.ct_syntax.proofs.UnitViews.{view_List, view_Block, view_If, view_Switch}
 use Rattle.ct_grammar_machine.specs.Algebra.{Aimed, Tree, designator_of, other_of, expressions_then, specs_then, members_then, enumerators_then, declarators_then, parameters_then, inits_then, branches_then, body_then}
-use Rattle.ct_parser_parts.specs.Parts.{Names, option_pair, kept}
+use Rattle.ct_parser_parts.specs.Parts.{Built, Names, option_pair, kept, one as enclosing, over, pair}
+use Rattle.ct_parser_parts.specs.Reach.{Depth, both, is_within}
 use Rattle.ct_parser_parts.specs.Views.{names_of}
 use Rattle.ct_parser_parts.specs.declared.parts.Declared.{Declared}
 
@@ -114,7 +115,11 @@ module _ {X Y Z : Type 0} (f : X → t.InitialiserItems) (g : Y → t.Designator
   aimed_some (Some x) None b o p e k = absurd cc
   aimed_some (Some x) (Some y) None o p e k = absurd cc
   aimed_some (Some x) (Some y) (Some z) None p e k = absurd cc
-  aimed_some (Some x) (Some y) (Some z) (Some aim) p e k = cc
+  aimed_some (Some x) (Some y) (Some z) (Some aim) p e k =
+      let at : p ≡ (x, (y, z)) = cc in
+      let same : g y ≡ designator_of aim = cc in
+      subst (λ q. Some (inits_then (f x) (t.item (designator_of aim) (h z) t.no_item)) ≡ Some (inits_then (f q.0) (t.item (g q.1.0) (h q.1.1) t.no_item))) (sym at)
+      (ap (λ d. Some (inits_then (f x) (t.item d (h z) t.no_item))) (sym same))
 
 -- ---- what is seen of parts that are built, or of none where one of them is not
 
@@ -227,3 +232,79 @@ view_if at bs None = view_If at bs None
 view_if at bs (Some s) = view_If at bs (Some s)
 
 pub ruleset unit_views = (view_List, view_Block, view_if, view_Switch)
+
+-- ---- constructs of which a lemma says what is seen of them
+
+abbrev pub built_at : {T : Type 0} → Option T → Depth → Built T
+built_at tree reach = record { tree = tree; reach = reach }
+
+module _ {A A' T : Type 0} (f : A → A') (build : A' → T) (deep : Depth → Depth) where
+  pub built_one : (ra r : Depth) (a o : Option A) (x : A) (tree : T) → r ≡ deep ra → o ≡ kept (is_within (deep ra)) a → o ≡ Some x → tree ≡ build (f x)
+      → built_at (Some tree) r ≡ enclosing deep build (built_at (option_map f a) ra)
+  built_one ra r a o x tree is_deep is_kept is_some is =
+      ap₂ built_at (ap Some is ∙ sym (ap (option_map build) (map_some f (is_within (deep ra)) a x (sym is_some ∙ is_kept)))) is_deep
+
+module _ {A A' B B' T : Type 0} (f : A → A') (g : B → B') (build : A' × B' → T) (deep : Depth → Depth) where
+  pub built_two : (ra rb r r' : Depth) (a : Option A) (b : Option B) (o o' : Option (A × B)) (p : A × B) (tree : T)
+      → r ≡ both ra rb → o ≡ option_pair a b → r' ≡ deep r → o' ≡ kept (is_within (deep r)) o → o' ≡ Some p → tree ≡ build (f p.0, g p.1)
+      → built_at (Some tree) r' ≡ enclosing deep build (pair (built_at (option_map f a) ra) (built_at (option_map g b) rb))
+  built_two ra rb r r' a b o o' p tree joins pairs is_deep is_kept is_some is =
+      let e : Some p ≡ kept (is_within (deep (both ra rb))) (option_pair a b) =
+      sym is_some ∙ is_kept ∙ ap₂ (λ d z. kept (is_within (deep d)) z) joins pairs in
+      ap₂ built_at (ap Some is ∙ sym (ap (option_map build) (two_some f g (is_within (deep (both ra rb))) a b p e))) (is_deep ∙ ap deep joins)
+
+module _ {A A' B B' C C' T : Type 0} (f : A → A') (g : B → B') (h : C → C') (build : (A' × B') × C' → T) (deep : Depth → Depth) where
+  pub built_three : (ra rb rc r r' r'' : Depth) (a : Option A) (b : Option B) (c : Option C) (o : Option (A × B)) (o' o'' : Option ((A × B) × C)) (p : (A × B) × C) (tree : T)
+      → r ≡ both ra rb → o ≡ option_pair a b → r' ≡ both r rc → o' ≡ option_pair o c → r'' ≡ deep r' → o'' ≡ kept (is_within (deep r')) o' → o'' ≡ Some p
+      → tree ≡ build ((f p.0.0, g p.0.1), h p.1)
+      → built_at (Some tree) r'' ≡ enclosing deep build (pair (pair (built_at (option_map f a) ra) (built_at (option_map g b) rb)) (built_at (option_map h c) rc))
+  built_three ra rb rc r r' r'' a b c o o' o'' p tree joins pairs joins' pairs' is_deep is_kept is_some is =
+      let reached : r' ≡ both (both ra rb) rc = joins' ∙ ap (λ d. both d rc) joins in
+      let paired : o' ≡ option_pair (option_pair a b) c = pairs' ∙ ap (λ z. option_pair z c) pairs in
+      let e : Some p ≡ kept (is_within (deep (both (both ra rb) rc))) (option_pair (option_pair a b) c) =
+      sym is_some ∙ is_kept ∙ ap₂ (λ d z. kept (is_within (deep d)) z) reached paired in
+      ap₂ built_at (ap Some is ∙ sym (ap (option_map build) (three_some f g h (is_within (deep (both (both ra rb) rc))) a b c p e))) (is_deep ∙ ap deep reached)
+
+module _ {A A' B B' C C' D D' T : Type 0} (f : A → A') (g : B → B') (h : C → C') (k : D → D') (build : ((A' × B') × C') × D' → T) (deep : Depth → Depth) where
+  abbrev together : Depth → Depth → Depth → Depth → Option A → Option B → Option C → Option D → Built T
+  together ra rb rc rd a b c d =
+      enclosing deep build (pair (pair (pair (built_at (option_map f a) ra) (built_at (option_map g b) rb)) (built_at (option_map h c) rc)) (built_at (option_map k d) rd))
+
+  pub built_four : (ra rb rc rd r r' r'' r''' : Depth) (a : Option A) (b : Option B) (c : Option C) (d : Option D)
+      (o : Option (A × B)) (o' : Option ((A × B) × C)) (o'' o''' : Option (((A × B) × C) × D)) (p : ((A × B) × C) × D) (tree : T)
+      → r ≡ both ra rb → o ≡ option_pair a b → r' ≡ both r rc → o' ≡ option_pair o c → r'' ≡ both r' rd → o'' ≡ option_pair o' d
+      → r''' ≡ deep r'' → o''' ≡ kept (is_within (deep r'')) o'' → o''' ≡ Some p → tree ≡ build (((f p.0.0.0, g p.0.0.1), h p.0.1), k p.1)
+      → built_at (Some tree) r''' ≡ together ra rb rc rd a b c d
+  built_four ra rb rc rd r r' r'' r''' a b c d o o' o'' o''' p tree j1 p1 j2 p2 j3 p3 is_deep is_kept is_some is =
+      let reached : r'' ≡ both (both (both ra rb) rc) rd = j3 ∙ ap (λ z. both z rd) (j2 ∙ ap (λ z. both z rc) j1) in
+      let paired : o'' ≡ option_pair (option_pair (option_pair a b) c) d = p3 ∙ ap (λ z. option_pair z d) (p2 ∙ ap (λ z. option_pair z c) p1) in
+      let e : Some p ≡ kept (is_within (deep (both (both (both ra rb) rc) rd))) (option_pair (option_pair (option_pair a b) c) d) =
+      sym is_some ∙ is_kept ∙ ap₂ (λ d' z. kept (is_within (deep d')) z) reached paired in
+      ap₂ built_at (ap Some is ∙ sym (ap (option_map build) (four_some f g h k (is_within (deep (both (both (both ra rb) rc) rd))) a b c d p e))) (is_deep ∙ ap deep reached)
+
+  pub empty_four : (ra rb rc rd r r' r'' r''' : Depth) (a : Option A) (b : Option B) (c : Option C) (d : Option D)
+      (o : Option (A × B)) (o' : Option ((A × B) × C)) (o'' o''' : Option (((A × B) × C) × D))
+      → r ≡ both ra rb → o ≡ option_pair a b → r' ≡ both r rc → o' ≡ option_pair o c → r'' ≡ both r' rd → o'' ≡ option_pair o' d
+      → r''' ≡ deep r'' → o''' ≡ kept (is_within (deep r'')) o'' → o''' ≡ None
+      → built_at None r''' ≡ together ra rb rc rd a b c d
+  empty_four ra rb rc rd r r' r'' r''' a b c d o o' o'' o''' j1 p1 j2 p2 j3 p3 is_deep is_kept is_none =
+      let reached : r'' ≡ both (both (both ra rb) rc) rd = j3 ∙ ap (λ z. both z rd) (j2 ∙ ap (λ z. both z rc) j1) in
+      let paired : o'' ≡ option_pair (option_pair (option_pair a b) c) d = p3 ∙ ap (λ z. option_pair z d) (p2 ∙ ap (λ z. option_pair z c) p1) in
+      let e : None ≡ kept (is_within (deep (both (both (both ra rb) rc) rd))) (option_pair (option_pair (option_pair a b) c) d) =
+      sym is_none ∙ is_kept ∙ ap₂ (λ d' z. kept (is_within (deep d')) z) reached paired in
+      ap₂ built_at (sym (ap (option_map build) (four_none f g h k (is_within (deep (both (both (both ra rb) rc) rd))) a b c d e))) (is_deep ∙ ap deep reached)
+
+-- two parts, the second of them perhaps a construct of its own, in a list
+module _ {A A' B B' T : Type 0} (f : A → A') (g : B → B') (build : A' × B' → T) where
+  pub listed_two : (ra rb r : Depth) (a : Option A) (b : Option B) (o : Option (A × B)) (p : A × B) (tree : T)
+      → r ≡ both ra rb → o ≡ option_pair a b → o ≡ Some p → tree ≡ build (f p.0, g p.1)
+      → built_at (Some tree) r ≡ over build (pair (built_at (option_map f a) ra) (built_at (option_map g b) rb))
+  listed_two ra rb r a b o p tree joins pairs is_some is =
+      ap₂ built_at (ap Some is ∙ sym (ap (option_map build) (pair_some f g a b p (sym is_some ∙ pairs)))) joins
+
+  pub listed_inside : (deep : Depth → Depth) (ra rb r' r : Depth) (a : Option A) (b b' : Option B) (o : Option (A × B)) (p : A × B) (tree : T)
+      → r' ≡ deep rb → b' ≡ kept (is_within (deep rb)) b → r ≡ both ra r' → o ≡ option_pair a b' → o ≡ Some p → tree ≡ build (f p.0, g p.1)
+      → built_at (Some tree) r ≡ over build (pair (built_at (option_map f a) ra) (enclosing deep (λ z. z) (built_at (option_map g b) rb)))
+  listed_inside deep ra rb r' r a b b' o p tree is_deep is_kept joins pairs is_some is =
+      let e : Some p ≡ option_pair a (kept (is_within (deep rb)) b) = sym is_some ∙ pairs ∙ ap (option_pair a) is_kept in
+      ap₂ built_at (ap Some is ∙ sym (ap (option_map build) (inside_some f g (is_within (deep rb)) a b p e))) (joins ∙ ap (both ra) is_deep)

@@ -95,13 +95,13 @@ pub fn push_init(
 {
     let item = pair(designator(alloc, aim), value)?;
     let Built { tree, reach } = pair(before, item)?;
-    let Some((mut list, (designator, value))) = tree else {
+    let Some((mut list, item)) = tree else {
         return Ok(Built { tree: None, reach });
     };
     list.push(InitialiserItem {
         span,
-        designator,
-        value,
+        designator: item.0,
+        value: item.1,
     })?;
     Ok(Built {
         tree: Some(list),

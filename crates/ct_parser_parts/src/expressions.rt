@@ -249,12 +249,12 @@ pub fn cast(
 {
     let operands = pair(pair(specs.built, declarator.built)?, operand.built)?;
     let Built { tree, reach } = enclosed(alloc, Nest::Expression, operands)?;
-    let Some(((specs, declarator), operand)) = tree else {
+    let Some((kind, operand)) = tree else {
         return Ok(deep(reach, 14, span));
     };
     shallow(
         alloc,
-        Expr::Cast(span, specs, declarator, operand),
+        Expr::Cast(span, kind.0, kind.1, operand),
         reach,
         14,
         span,

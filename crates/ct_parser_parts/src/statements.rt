@@ -234,10 +234,14 @@ pub fn for_loop(
     let head = pair(head, optional(alloc, after))?;
     let operands = pair(head, body)?;
     let Built { tree, reach } = enclosed(alloc, Nest::Statement, operands)?;
-    let Some((((start, test), after), body)) = tree else {
+    let Some((head, body)) = tree else {
         return Ok(Built { tree: None, reach });
     };
-    shallow(alloc, Statement::For(span, start, test, after, body), reach)
+    shallow(
+        alloc,
+        Statement::For(span, head.0.0, head.0.1, head.1, body),
+        reach,
+    )
 }
 
 /// A `switch`.
