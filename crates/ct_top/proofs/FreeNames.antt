@@ -5,7 +5,8 @@ use Rattle.std.specs.List.{starts_with, list_any}
 use Rattle.std.specs.Cmp.Lexicographic.{pointwise}
 use Rattle.std.proofs.lemmas.Bool.{and_parts, and_from, not-true, not-false, true≢false}
 use Rattle.std.proofs.lemmas.List.Elements.{All-cons, All-nil}
-use Rattle.ct_form.specs.Words.{begins_with, begins_with_letter, c_words, is_free_name, is_name_byte, is_other_byte}
+use Rattle.ct_base.specs.Bytes.{is_name_byte}
+use Rattle.ct_form.specs.Words.{begins_with, begins_with_letter, c_words, is_free_name, is_other_byte}
 
 -- what each part of the definition says
 pub free_parts : (text : List ℕ) → is_free_name text ≡ true
