@@ -57,7 +57,7 @@ dedup_at : (b : Bool) (x y : String Global) (xs : List (String Global))
     → texts_of (dedup_from string_eq x xs) ≡ dedup_from bytes_eq (string_bytes x) (texts_of xs)
     → texts_of (dedup_from string_eq y xs) ≡ dedup_from bytes_eq (string_bytes y) (texts_of xs)
     → texts_of (cond b (dedup_from string_eq x xs) (x ∷ dedup_from string_eq y xs))
-        ≡ cond b (dedup_from bytes_eq (string_bytes x) (texts_of xs)) (string_bytes x ∷ dedup_from bytes_eq (string_bytes y) (texts_of xs))
+    ≡ cond b (dedup_from bytes_eq (string_bytes x) (texts_of xs)) (string_bytes x ∷ dedup_from bytes_eq (string_bytes y) (texts_of xs))
 dedup_at true x y xs same other = same
 dedup_at false x y xs same other = ap (λ (ts : List (List ℕ)). string_bytes x ∷ ts) other
 

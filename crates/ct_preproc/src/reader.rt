@@ -10,7 +10,7 @@ ghost use Rattle.ct_directive.specs.Search as search;
 
 use crate::directives::Step;
 use crate::file::File;
-use crate::paths::{is_among, file_number, with_path};
+use crate::paths::{file_number, is_among, with_path};
 use crate::reading::{Reading, begun, with_include};
 use crate::state::{Opens, Place, State};
 use ct_base::{Items, LimitKind, Mem, Out, Token};
