@@ -43,7 +43,7 @@ impl Model for Names {
 }
 
 /// Sets what a name of the table means.
-#[tactic(auto, using(crate::proofs::Rules::set_none))]
+#[tactic(auto, using(crate::proofs::NameRules::set_none))]
 fn set_meaning(table: &mut Meanings, name: &[u8], meaning: Option<bool>)
     ensures { table.new.entries ≡ set_value (is_key name.now) table.old.entries meaning }
 {
@@ -76,7 +76,7 @@ impl Names {
     }
 
     /// Leaves the innermost scope: its names mean again what they meant before it.
-    #[tactic(auto, using(crate::proofs::Rules::reverse_last, crate::proofs::Rules::left_scope, crate::proofs::Rules::left_name))]
+    #[tactic(auto, using(crate::proofs::NameRules::reverse_last, crate::proofs::NameRules::left_scope, crate::proofs::NameRules::left_name))]
     pub fn leave(&mut self)
         ensures { self.new ≡ outside self.old }
     {
