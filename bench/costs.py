@@ -118,17 +118,23 @@ def longest(name, uses, minutes, known):
     return known[name]
 
 
+def minutes(seconds):
+    """Minutes as they stand in the table: `-` where nothing was measured."""
+    return "-" if seconds is None else "%.1f" % (seconds / 60)
+
+
 def table(seconds):
     """The table of docs/COSTS.md."""
     uses = crates()
     lines = ["| Crate | Proof | Tests | Edits | Together |", "|---|---|---|---|---|"]
     totals = dict.fromkeys(KINDS, 0.0)
     for name in uses:
-        spent = [seconds.get(name, {}).get(kind, 0.0) / 60 for kind in KINDS]
+        spent = [seconds.get(name, {}).get(kind) for kind in KINDS]
+        together = sum(it or 0.0 for it in spent) if any(spent) else None
         for kind, it in zip(KINDS, spent):
-            totals[kind] += it
-        lines.append("| `%s` | %s | %.1f |" % (name, " | ".join("%.1f" % it for it in spent), sum(spent)))
-    lines.append("| all | %s | %.1f |" % (" | ".join("%.1f" % totals[kind] for kind in KINDS), sum(totals.values())))
+            totals[kind] += it or 0.0
+        lines.append("| `%s` | %s | %s |" % (name, " | ".join(map(minutes, spent)), minutes(together)))
+    lines.append("| all | %s | %s |" % (" | ".join(minutes(totals[kind]) for kind in KINDS), minutes(sum(totals.values()))))
     proofs = {name: seconds.get(name, {}).get("proof", 0.0) / 60 for name in uses}
     known = {}
     chain = max(longest(name, uses, proofs, known) for name in uses)
