@@ -1,2 +1,2 @@
+pub mod Reading
 pub mod Parses
-pub mod Unsupported

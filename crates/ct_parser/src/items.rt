@@ -1,17 +1,18 @@
 //! Items, one by one.
 
 ghost use Rattle.std.specs.Prelude.{◌≡◌, ◌<◌, ◌≤◌, [], ◌∷◌, false, length, drop, IfOk, MatchOption, Some, None};
-ghost use Rattle.ct_parser_state.specs.Code.{entries, frames, stack, scope, mode_of};
-ghost use Rattle.ct_grammar_machine.specs.Frames.{InUnit, Begin};
-ghost use Rattle.ct_grammar_machine.specs.Reading.{is_begin as spec_begin, is_between as spec_between, read_item as spec_read};
-ghost use Rattle.ct_parser_parts.specs.Parts.{parts_built};
-ghost use Rattle.ct_parser_parts.specs.Views.{items_part};
+ghost use Rattle.ct_open.specs.Code.{entries, frames, stack, scope, mode_of};
+ghost use Rattle.ct_open.specs.Frames.{InUnit, Begin};
+ghost use Rattle.ct_parser.specs.Reading.{is_begin as spec_begin, is_between as spec_between, read_item as spec_read};
+ghost use Rattle.ct_parts.specs.Parts.{parts_built};
+ghost use Rattle.ct_parts.specs.Views.{items_part};
 ghost use Rattle.ct_syntax.specs.Words.{words};
 
 use ct_base::{Mem, Token};
-use ct_parser_parts::{Built, no_items};
-use ct_parser_state::{BodyFrame, Frame, Mode, ParserState, StatementMode};
-use ct_parser_statements::step;
+use ct_build::no_items;
+use ct_open::{BodyFrame, Frame, Mode, Open, StatementMode};
+use ct_parts::Built;
+use ct_step::step;
 use ct_syntax::Item;
 use std::alloc::Global;
 
@@ -31,7 +32,7 @@ fn is_begin(mode: &Mode) -> bool
 
 /// The items that are read, where an item has ended and none has begun, and nothing else is open.
 #[tactic(auto, using(crate::proofs::OneMore::begun, crate::proofs::OneMore::not_begun))]
-fn items_between(state: &mut ParserState, mode: &Mode) -> Mem<Option<Built<Vec<Item>>>>
+fn items_between(state: &mut Open, mode: &Mode) -> Mem<Option<Built<Vec<Item>>>>
     ensures between { IfOk result (λ o. MatchOption o (spec_between parts_built (stack state.old) (mode_of mode.now) ≡ false) (λ all. (stack state.old ≡ InUnit (items_part all) ∷ []) × (mode_of mode.now ≡ Begin))) }
     ensures frames { IfOk result (λ o. MatchOption o (frames state.new ≡ frames state.old) (λ all. frames state.new ≡ [])) }
     ensures names { entries state.new ≡ entries state.old }
@@ -58,7 +59,7 @@ fn items_between(state: &mut ParserState, mode: &Mode) -> Mem<Option<Built<Vec<I
 #[tactic(auto, using(crate::proofs::OneMore::found_at, crate::proofs::OneMore::read_refused, crate::proofs::OneMore::read_ended, crate::proofs::OneMore::read_on, crate::proofs::OneMore::read_all))]
 pub fn read_item(
     alloc: Global,
-    state: &mut ParserState,
+    state: &mut Open,
     tokens: &[Token],
     place: usize,
 ) -> Mem<Option<ItemRead>>

@@ -1,7 +1,10 @@
 //! Test files of the form, read and run by themselves.
 
+ghost use Rattle.std.specs.Prelude.{◌≤◌};
+ghost use Rattle.ct_base.specs.Limits.{most_steps};
+
 use crate::shown::push_line;
-use ct_base::{Fail, Mem, Out, OutOfMemory, Token};
+use ct_base::{Fail, MOST_STEPS, Mem, Out, OutOfMemory, Token};
 use ct_core::CoreUnit;
 use ct_form::{Outside, read};
 use ct_phases::log_by_runner;
@@ -51,12 +54,14 @@ pub fn form_outcome(alloc: Global, row: &Row, out: &mut String) -> Mem<()> {
     }
 }
 
-/// The budget of a row, which is at most 255.
-fn budget_of(row: &Row) -> u64 {
+/// The budget of a row: from 1 to the most steps of a test, 1 where the row names none.
+fn budget_of(row: &Row) -> u64
+    ensures { (1 ≤ result) × (result ≤ most_steps) }
+{
     let budget = row
         .value_of("budget")
-        .and_then(|budget| budget.parse::<u8>().ok());
-    u64::from(budget.unwrap_or(1)).max(1)
+        .and_then(|budget| budget.parse::<u64>().ok());
+    budget.unwrap_or(1).clamp(1, MOST_STEPS)
 }
 
 /// Appends the lines of the report on the test file of a row, where each test may take as many steps as the

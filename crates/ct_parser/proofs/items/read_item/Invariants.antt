@@ -1,9 +1,9 @@
 use Rattle.std.proofs.Common.{◌≡◌, [], ◌∷◌, drop}
 use Rattle.ct_syntax.specs.Words.{words}
-use Rattle.ct_parser_parts.specs.Parts.{parts_built}
-use Rattle.ct_parser_state.specs.Code.{scope, stack, mode_of}
-use Rattle.ct_grammar_machine.specs.Frames.{InUnit, Begin}
-use Rattle.ct_grammar_machine.specs.Reading.{read_item}
+use Rattle.ct_parts.specs.Parts.{parts_built}
+use Rattle.ct_open.specs.Code.{scope, stack, mode_of}
+use Rattle.ct_open.specs.Frames.{InUnit, Begin}
+use Rattle.ct_parser.specs.Reading.{read_item}
 use Rattle.ct_parser.proofs.items.read_item.Given as goal
 
 -- what is read of the rest is what is read of the whole

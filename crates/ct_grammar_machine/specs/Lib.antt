@@ -1,4 +1,0 @@
-pub mod Algebra
-pub mod Frames
-pub mod Steps
-pub mod Reading

@@ -1,4 +1,0 @@
-pub mod Reach
-pub mod Taking
-pub mod Parts
-pub mod Views

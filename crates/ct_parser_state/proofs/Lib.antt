@@ -1,2 +1,0 @@
-pub mod NameRules
-pub mod Rules

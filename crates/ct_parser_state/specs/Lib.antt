@@ -1,4 +1,0 @@
-pub mod Names
-pub mod Table
-pub mod Terminals
-pub mod Code

@@ -1,0 +1,5 @@
+pub mod Algebra
+pub mod Reach
+pub mod Taking
+pub mod Parts
+pub mod Views
