@@ -4,25 +4,25 @@ use Rattle.std.specs.Prelude.{option_map}
 use Rattle.std.proofs.lemmas.Bool.{cond_both}
 use Rattle.ct_syntax.specs.Words.{Word}
 use Rattle.ct_syntax.specs.Scopes.{Scope, after_item, after_unit}
-use Rattle.ct_syntax.specs.Grammar.{IsItem, IsUnit}
+use Rattle.ct_syntax.specs.Grammar.{IsItem, IsTranslationUnit}
 use Rattle.ct_syntax.specs.Spelling.{spell_item, spell_unit}
 use Rattle.ct_syntax.specs.Units.{NoItem}
 use Rattle.ct_syntax.specs.Trees as t
-use Rattle.ct_parts.specs.Algebra.{items, Tree, trees_built}
-use Rattle.ct_parts.specs.Parts.{Part, part, parts_built}
-use Rattle.ct_open.specs.Frames.{InUnit, Mode, Begin, Stack, State}
-use Rattle.ct_open.specs.Steps.{step, then_run, run}
-use Rattle.ct_parser.specs.Reading.{unit_read, is_between, then_item, read_item}
-use Rattle.ct_parser.proofs.Basics.{R}
-use Rattle.ct_parser.proofs.CompleteStatements.{reads_item}
-use Rattle.ct_parser.proofs.SoundPlaces.{Goes}
-use Rattle.ct_parser.proofs.SoundStatements.{run_goes}
-use Rattle.ct_parser.proofs.Append.{item-append}
-use Rattle.ct_parser.proofs.Map.{map_stack, map_mode, map_step}
-use Rattle.ct_parser.proofs.MapStatements.{step_map}
+use Rattle.ct_grammar_machine.specs.Algebra.{items, Tree, trees_built}
+use Rattle.ct_parser_parts.specs.Parts.{Part, part, parts_built}
+use Rattle.ct_grammar_machine.specs.Frames.{InUnit, Mode, Begin, Stack, State}
+use Rattle.ct_grammar_machine.specs.Steps.{step, then_run, run}
+use Rattle.ct_grammar_machine.specs.Reading.{unit_read, is_between, then_item, read_item}
+use Rattle.ct_grammar_laws.proofs.Basics.{R}
+use Rattle.ct_grammar_laws.proofs.CompleteStatements.{reads_item}
+use Rattle.ct_grammar_laws.proofs.SoundPlaces.{Goes}
+use Rattle.ct_grammar_laws.proofs.SoundStatements.{run_goes}
+use Rattle.ct_grammar_laws.proofs.Append.{item-append}
+use Rattle.ct_grammar_laws.proofs.Map.{map_stack, map_mode, map_step}
+use Rattle.ct_grammar_laws.proofs.MapStatements.{step_map}
 use Rattle.ct_parser.proofs.PartsMap.{parts_hom}
 use Rattle.ct_parser.proofs.Tells.{unit_same}
-use Rattle.ct_parser.proofs.Units.{between, longer, items_of, no_item}
+use Rattle.ct_grammar_laws.proofs.Units.{between, longer, items_of, no_item}
 
 abbrev At : Type 0
 At = State Tree × List Word
@@ -87,7 +87,7 @@ item_some x sc wf e =
     longer [] x (ap (items_of []) (ap (λ us. R us sc (InUnit [] ∷ []) Begin) (sym e) ∙ reads_item x sc [] [] [] wf))
 
 -- the words of a unit are none only where it has no item
-none_left : (is : List t.Item) (sc : Scope) → IsUnit sc is → length (spell_unit is []) ≡ 0 → is ≡ []
+none_left : (is : List t.Item) (sc : Scope) → IsTranslationUnit sc is → length (spell_unit is []) ≡ 0 → is ≡ []
 none_left [] sc wf e = refl
 none_left (x ∷ is) sc wf e =
     let same = ap length (item-append x [] (spell_unit is [])) ∙ length-append (spell_item x []) (spell_unit is []) in
@@ -105,7 +105,7 @@ pub record ItemIs (sc : Scope) (ws rest : List Word) (sc' : Scope) (is : List t.
   pub scope : sc' ≡ after_item sc item
   pub alone : is ≡ item ∷ []
 
-only_one : (sc sc' : Scope) (ws rest : List Word) (is : List t.Item) → IsUnit sc is → spell_unit is rest ≡ ws → sc' ≡ after_unit sc is → read_item trees_built ws sc (InUnit [] ∷ []) Begin ≡ Some ((sc', InUnit is ∷ [], Begin), rest) → (us : List Word) → us ++ rest ≡ ws → (length us ≡ 0 → ⊥) → R us sc (InUnit [] ∷ []) Begin ≡ Some (sc', InUnit is ∷ [], Begin) → ItemIs sc ws rest sc' is
+only_one : (sc sc' : Scope) (ws rest : List Word) (is : List t.Item) → IsTranslationUnit sc is → spell_unit is rest ≡ ws → sc' ≡ after_unit sc is → read_item trees_built ws sc (InUnit [] ∷ []) Begin ≡ Some ((sc', InUnit is ∷ [], Begin), rest) → (us : List Word) → us ++ rest ≡ ws → (length us ≡ 0 → ⊥) → R us sc (InUnit [] ∷ []) Begin ≡ Some (sc', InUnit is ∷ [], Begin) → ItemIs sc ws rest sc' is
 only_one sc sc' ws rest [] wf e f h us g some r = let lengths = length-append us rest in let same = ap length (g ∙ sym e) in absurd (some (omega (arith, lengths, same)))
 only_one sc sc' ws rest (x ∷ is) wf e f h us g some r =
     let split = ap (spell_item x) (unit-append is rest) in
@@ -123,7 +123,7 @@ item_found (v ∷ ws) rest sc sc' is h =
     let us = v ∷ front.0 in
     let goes : Goes sc (λ more. us ++ more) (Some (sc', InUnit is ∷ [], Begin)) = subst (Goes sc (λ more. us ++ more)) front.2 (run_goes sc us sc (InUnit [] ∷ []) Begin (refl, (sc, tt, refl, refl))) in
     let words = ap (λ ws. v ∷ ws) front.1 in
-    only_one sc sc' (v ∷ ws) rest is (subst (λ z. IsUnit z is) goes.0.1.3 goes.0.1.1) (goes.1 rest ∙ words) (goes.0.1.2 ∙ ap (λ z. after_unit z is) goes.0.1.3) h us words (λ e. no_zero (length front.0) e) front.2
+    only_one sc sc' (v ∷ ws) rest is (subst (λ z. IsTranslationUnit z is) goes.0.1.3 goes.0.1.1) (goes.1 rest ∙ words) (goes.0.1.2 ∙ ap (λ z. after_unit z is) goes.0.1.3) h us words (λ e. no_zero (length front.0) e) front.2
   where
     no_zero : (n : ℕ) → suc n ≡ 0 → ⊥
     no_zero n e = absurd (omega (arith, e))

@@ -11,13 +11,13 @@ use Rattle.ct_syntax.specs.Scopes.{Scope, no_names, after_item, after_unit}
 use Rattle.ct_syntax.specs.Grammar.{IsItem}
 use Rattle.ct_syntax.specs.Spelling.{spell_unit}
 use Rattle.ct_syntax.specs.Depths.{all_room, or_else, passed_item, passed_unit}
-use Rattle.ct_syntax.specs.Units.{Spells, IsShallow, NoItem, Unspelled}
+use Rattle.ct_syntax.specs.Units.{SpellsUnit, IsShallow, NoItem, Unspelled}
 use Rattle.ct_syntax.specs.Trees as t
-use Rattle.ct_parts.specs.Algebra.{items}
-use Rattle.ct_parts.specs.Parts.{Part, kept}
-use Rattle.ct_parts.specs.Reach.{passed_by, depth_unit}
+use Rattle.ct_grammar_machine.specs.Algebra.{items}
+use Rattle.ct_parser_parts.specs.Parts.{Part, kept}
+use Rattle.ct_parser_parts.specs.Reach.{passed_by, depth_unit}
 use Rattle.ct_parser.specs.Parses.{Refused, Parsed, Reached, Progress, then_built, items_after, deep_here, deep_after}
-use Rattle.ct_parser.proofs.Leads.{unit_spelled, after_unit-last, IsUnit-last}
+use Rattle.ct_grammar_laws.proofs.Leads.{unit_spelled, after_unit-last, IsTranslationUnit-last}
 use Rattle.ct_parser.proofs.ReachTells.{tells_depth_unit}
 use Rattle.ct_parser.proofs.ItemRead.{ItemSeen, unit-append}
 use Rattle.ct_parser.proofs.OneUnit.{no_unit, one_place}
@@ -77,7 +77,7 @@ module _ (tokens : List Token) (at next : ℕ) (scope scope' : Scope) (p : Part 
   more : (built built' : List t.Item) (deep deep' : Option (ℕ × LimitKind)) → (h : Progress tokens at scope built deep) → Reached tokens (h.all ++ seen.item ∷ []) built' deep' → Progress tokens next scope' built' deep'
   more built built' deep deep' h r = record {
     all = h.all ++ seen.item ∷ [];
-    is_unit = IsUnit-last no_names h.all seen.item h.is_unit (subst (λ z. IsItem z seen.item) h.scope_is seen.is_item);
+    is_unit = IsTranslationUnit-last no_names h.all seen.item h.is_unit (subst (λ z. IsItem z seen.item) h.scope_is seen.is_item);
     spelled = unit_spelled h.all seen.item (words (drop next tokens)) ∙ ap (spell_unit h.all) seen.spelled ∙ h.spelled;
     scope_is = seen.scope ∙ ap (λ z. after_item z seen.item) h.scope_is ∙ sym (after_unit-last no_names h.all seen.item);
     reached = r;
@@ -164,11 +164,11 @@ at_no_item tokens at token scope built deep h e none =
 pub drop_all : (tokens : List Token) → drop (length tokens) tokens ≡ []
 drop_all tokens = drop-length tokens
 
-whole : (tokens : List Token) (scope : Scope) (built : List t.Item) (deep : Option (ℕ × LimitKind)) → (h : Progress tokens (length tokens) scope built deep) → Spells h.all (words tokens)
+whole : (tokens : List Token) (scope : Scope) (built : List t.Item) (deep : Option (ℕ × LimitKind)) → (h : Progress tokens (length tokens) scope built deep) → SpellsUnit h.all (words tokens)
 whole tokens scope built deep h = record { is_unit = h.is_unit; spelled = ap (λ z. spell_unit h.all (words z)) (sym (drop_all tokens)) ∙ h.spelled }
 
 pub at_end : (tokens : List Token) (scope : Scope) (built : List t.Item) → Progress tokens (length tokens) scope built None → Parsed tokens built
-at_end tokens scope built h = (subst (λ z. Spells z (words tokens)) (sym h.reached.0) (whole tokens scope built None h), subst IsShallow (sym h.reached.0) h.reached.1)
+at_end tokens scope built h = (subst (λ z. SpellsUnit z (words tokens)) (sym h.reached.0) (whole tokens scope built None h), subst IsShallow (sym h.reached.0) h.reached.1)
 
 pub at_deep_end : (tokens : List Token) (scope : Scope) (built : List t.Item) (place : ℕ) (kind : LimitKind) (token : Token) → Progress tokens (length tokens) scope built (Some (place, kind)) → slice_get tokens place ≡ Some token → Refused tokens token.span (Some kind)
 at_deep_end tokens scope built place kind token h e =
@@ -184,7 +184,7 @@ at_deep_end tokens scope built place kind token h e =
         earlier = r.0;
         deep = r.1;
         later = r.2;
-        spells = subst (λ z. Spells z (words (take place tokens ++ token ∷ drop (place + 1) tokens))) r.3 (subst (λ z. Spells h.all (words z)) split (whole tokens scope built (Some (place, kind)) h));
+        spells = subst (λ z. SpellsUnit z (words (take place tokens ++ token ∷ drop (place + 1) tokens))) r.3 (subst (λ z. SpellsUnit h.all (words z)) split (whole tokens scope built (Some (place, kind)) h));
         behind = spelled_before r.0 tokens place r.4;
         shallow = r.5;
         deepest = r.6;
@@ -196,7 +196,7 @@ at_deep_end tokens scope built place kind token h e =
 whole_words : (before after : List Token) (token : Token) (h : Unspelled before token after) → spell_unit h.items (words (token ∷ after)) ≡ words (before ++ token ∷ after)
 whole_words before after token h = unit-append h.items (words (token ∷ after)) ∙ ap (λ ws. ws ++ words (token ∷ after)) h.spells.spelled ∙ sym (words-append before (token ∷ after))
 
-pub unspelled_none : (before after : List Token) (token : Token) → Unspelled before token after → (is : List t.Item) → Spells is (words (before ++ token ∷ after)) → ⊥
+pub unspelled_none : (before after : List Token) (token : Token) → Unspelled before token after → (is : List t.Item) → SpellsUnit is (words (before ++ token ∷ after)) → ⊥
 unspelled_none before after token h is k = no_unit h.items no_names (word token) (words after) h.spells.is_unit h.no_item is k.is_unit (k.spelled ∙ sym (whole_words before after token h))
 
 pub unspelled_once : (before after before' after' : List Token) (token token' : Token) → before ++ token ∷ after ≡ before' ++ token' ∷ after' → Unspelled before token after → Unspelled before' token' after' → words before ≡ words before'

@@ -8,11 +8,11 @@ use Rattle.ct_syntax.specs.Scopes.{Scope, no_names}
 use Rattle.ct_syntax.specs.Trees as t
 use Rattle.ct_syntax.specs.UnitViews.{view_item}
 use Rattle.ct_syntax.specs.declared.statements.Item.{Item}
-use Rattle.ct_parts.specs.Algebra.{items}
-use Rattle.ct_parts.specs.Parts.{Part, parts_built}
-use Rattle.ct_open.specs.Frames.{InUnit, Mode, Begin, Stack, State}
-use Rattle.ct_open.specs.Steps.{step}
-use Rattle.ct_parser.specs.Reading.{is_begin, is_between, then_item, read_item}
+use Rattle.ct_grammar_machine.specs.Algebra.{items}
+use Rattle.ct_parser_parts.specs.Parts.{Part, parts_built}
+use Rattle.ct_grammar_machine.specs.Frames.{InUnit, Mode, Begin, Stack, State}
+use Rattle.ct_grammar_machine.specs.Steps.{step}
+use Rattle.ct_grammar_machine.specs.Reading.{is_begin, is_between, then_item, read_item}
 use Rattle.ct_parser.specs.Parses.{Refused, Parsed, Progress, items_after, deep_after}
 use Rattle.ct_parser.proofs.ItemRead.{item_seen, nothing_read}
 use Rattle.ct_parser.proofs.Loop.{rest_at, drop_all, next_item, at_start, at_no_item, at_end, at_deep_end}

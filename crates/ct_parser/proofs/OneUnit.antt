@@ -2,17 +2,17 @@
 use Rattle.std.proofs.Common.{◌≡◌, ◌⊎◌, inl, inr, List, [], ◌∷◌, ◌++◌, length, Option, Some, None, refl, sym, ap, subst, ◌∙◌, arith, length-append}
 use Rattle.ct_syntax.specs.Words.{Word}
 use Rattle.ct_syntax.specs.Scopes.{Scope, after_item, after_unit}
-use Rattle.ct_syntax.specs.Grammar.{IsItem, IsUnit}
+use Rattle.ct_syntax.specs.Grammar.{IsItem, IsTranslationUnit}
 use Rattle.ct_syntax.specs.Spelling.{spell_item, spell_unit}
 use Rattle.ct_syntax.specs.Units.{NoItem}
 use Rattle.ct_syntax.specs.Trees as t
-use Rattle.ct_parts.specs.Algebra.{Tree}
-use Rattle.ct_open.specs.Frames.{InUnit, Begin, State}
-use Rattle.ct_parser.proofs.Basics.{R}
-use Rattle.ct_parser.proofs.CompleteStatements.{reads_item}
-use Rattle.ct_parser.proofs.Append.{item-append}
-use Rattle.ct_parser.proofs.Map.{map_step}
-use Rattle.ct_parser.proofs.Growing.{grow, grown}
+use Rattle.ct_grammar_machine.specs.Algebra.{Tree}
+use Rattle.ct_grammar_machine.specs.Frames.{InUnit, Begin, State}
+use Rattle.ct_grammar_laws.proofs.Basics.{R}
+use Rattle.ct_grammar_laws.proofs.CompleteStatements.{reads_item}
+use Rattle.ct_grammar_laws.proofs.Append.{item-append}
+use Rattle.ct_grammar_laws.proofs.Map.{map_step}
+use Rattle.ct_grammar_laws.proofs.Growing.{grow, grown}
 use Rattle.ct_parser.proofs.ItemRead.{item_some}
 
 abbrev first_item : Option (State Tree) → Option t.Item
@@ -73,19 +73,19 @@ nothing_spelled x sc a wf e =
     item_some x sc wf (no_length (spell_item x []) (omega (arith, lengths)))
 
 -- Where items stand before a place at which no item begins, and which is not the end, the whole is no unit.
-pub no_unit : (is : List t.Item) (sc : Scope) (v : Word) (rest : List Word) → IsUnit sc is → NoItem (after_unit sc is) (v ∷ rest) → (js : List t.Item) → IsUnit sc js → spell_unit js [] ≡ spell_unit is (v ∷ rest) → ⊥
+pub no_unit : (is : List t.Item) (sc : Scope) (v : Word) (rest : List Word) → IsTranslationUnit sc is → NoItem (after_unit sc is) (v ∷ rest) → (js : List t.Item) → IsTranslationUnit sc js → spell_unit js [] ≡ spell_unit is (v ∷ rest) → ⊥
 no_unit [] sc v rest wf none [] wfj e = absurd cc
 no_unit [] sc v rest wf none (j ∷ js) wfj e = none j (spell_unit js []) wfj.0 e
 no_unit (x ∷ is) sc v rest wf none [] wfj e = nothing_spelled x sc (spell_unit is (v ∷ rest)) wf.0 (sym e)
 no_unit (x ∷ is) sc v rest wf none (j ∷ js) wfj e =
     let same = same_item j x sc (spell_unit js []) (spell_unit is (v ∷ rest)) wfj.0 wf.0 e in
-    no_unit is (after_item sc x) v rest wf.1 none js (subst (λ z. IsUnit (after_item sc z) js) same.0 wfj.1) same.1
+    no_unit is (after_item sc x) v rest wf.1 none js (subst (λ z. IsTranslationUnit (after_item sc z) js) same.0 wfj.1) same.1
 
 -- There is one such place.
-pub one_place : (is js : List t.Item) (sc : Scope) (v w : Word) (a b : List Word) → IsUnit sc is → NoItem (after_unit sc is) (v ∷ a) → IsUnit sc js → NoItem (after_unit sc js) (w ∷ b) → spell_unit is (v ∷ a) ≡ spell_unit js (w ∷ b) → is ≡ js
+pub one_place : (is js : List t.Item) (sc : Scope) (v w : Word) (a b : List Word) → IsTranslationUnit sc is → NoItem (after_unit sc is) (v ∷ a) → IsTranslationUnit sc js → NoItem (after_unit sc js) (w ∷ b) → spell_unit is (v ∷ a) ≡ spell_unit js (w ∷ b) → is ≡ js
 one_place [] [] sc v w a b wf none wfj nonej e = refl
 one_place [] (j ∷ js) sc v w a b wf none wfj nonej e = absurd (none j (spell_unit js (w ∷ b)) wfj.0 (sym e))
 one_place (x ∷ is) [] sc v w a b wf none wfj nonej e = absurd (nonej x (spell_unit is (v ∷ a)) wf.0 e)
 one_place (x ∷ is) (j ∷ js) sc v w a b wf none wfj nonej e =
     let same = same_item x j sc (spell_unit is (v ∷ a)) (spell_unit js (w ∷ b)) wf.0 wfj.0 e in
-    ap (λ z. z ∷ is) same.0 ∙ ap (λ z. j ∷ z) (one_place is js (after_item sc j) v w a b (subst (λ z. IsUnit (after_item sc z) is) same.0 wf.1) (subst (λ z. NoItem (after_unit (after_item sc z) is) (v ∷ a)) same.0 none) wfj.1 nonej same.1)
+    ap (λ z. z ∷ is) same.0 ∙ ap (λ z. j ∷ z) (one_place is js (after_item sc j) v w a b (subst (λ z. IsTranslationUnit (after_item sc z) is) same.0 wf.1) (subst (λ z. NoItem (after_unit (after_item sc z) is) (v ∷ a)) same.0 none) wfj.1 nonej same.1)

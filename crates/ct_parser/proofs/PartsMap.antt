@@ -5,20 +5,20 @@ use Rattle.std.proofs.lemmas.Bool.{eqb-true}
 use Rattle.ct_syntax.specs.declared.words.SpecWord.{SpecWord}
 use Rattle.ct_syntax.specs.declared.words.SpecWord.TheVariants as sw
 use Rattle.ct_syntax.specs.Words.{Text}
-use Rattle.ct_syntax.specs.Scopes.{Scope, with_name, with_maybe, name_of, is_typedef, is_plain, own_parameters, after_specs, after_members, after_enumerators, after_declarator, after_parameters}
-use Rattle.ct_syntax.specs.TypeWords.{words_of, whole_types}
+use Rattle.ct_syntax.specs.Scopes.{Scope, with_name, with_maybe, name_of, is_typedef, is_plain_declarator, own_parameters, after_specs, after_members, after_enumerators, after_declarator, after_parameters}
+use Rattle.ct_syntax.specs.TypeWords.{specifier_words, whole_types}
 use Rattle.ct_syntax.specs.Grammar.{has_parameters, is_only_void}
-use Rattle.ct_parts.specs.Reach.{Depth, flat, both, is_within, passed_by, nested, in_expression, in_declarator, in_statement, depth, depths, depth_optional, depth_specs, depth_members, depth_enumerators, depth_declarators, depth_declarator, depth_parameters, depth_designator, depth_initialiser, depth_items, depth_start, depth_init_declarators, depth_declaration, depth_maybe, depth_for_start, depth_statement, depth_branches, depth_other, depth_body, depth_item, depth_unit}
+use Rattle.ct_parser_parts.specs.Reach.{Depth, flat, both, is_within, passed_by, nested, in_expression, in_declarator, in_statement, depth, depths, depth_optional, depth_specs, depth_members, depth_enumerators, depth_declarators, depth_declarator, depth_parameters, depth_designator, depth_initialiser, depth_items, depth_start, depth_init_declarators, depth_declaration, depth_maybe, depth_for_start, depth_statement, depth_branches, depth_other, depth_body, depth_item, depth_unit}
 use Rattle.ct_syntax.specs.Trees as t
-use Rattle.ct_parts.specs.Algebra.{Sort, expr, exprs, specs, members, enumerators, declarators, decl, parameters, init, inits, init_declarators, declaration, for_start, stmt, branches, body, items, Aimed, AtNext, AtMember, AtIndex, Tree, trees_built, designator_of, other_of, expressions_then, specs_then, members_then, enumerators_then, declarators_then, parameters_then, inits_then, branches_then, body_then}
-use Rattle.ct_parts.specs.Parts.{Names, declare_all, names_specs, names_members, names_enumerators, name_maybe, names_parameters, SpecInfo, Info, is_typedef_word, is_nameless, is_empty, is_one_void, info_of, depth_of, Built, kept, fit, part, one, over, option_pair, pair, built_of, aimed, make, with_whole, parts_built}
-use Rattle.ct_parser.proofs.TypeParts.{whole_then, words_then}
+use Rattle.ct_grammar_machine.specs.Algebra.{Sort, expr, exprs, specs, members, enumerators, declarators, decl, parameters, init, inits, init_declarators, declaration, for_start, stmt, branches, body, items, Aimed, AtNext, AtMember, AtIndex, Tree, trees_built, designator_of, other_of, expressions_then, specs_then, members_then, enumerators_then, declarators_then, parameters_then, inits_then, branches_then, body_then}
+use Rattle.ct_parser_parts.specs.Parts.{Names, declare_all, names_specs, names_members, names_enumerators, name_maybe, names_parameters, SpecInfo, Info, is_typedef_word, is_nameless, is_empty, is_one_void, info_of, depth_of, Built, kept, fit, part, one, over, option_pair, pair, built_of, aimed, make, with_whole, parts_built}
+use Rattle.ct_grammar_laws.proofs.TypeParts.{whole_then, words_then}
 use Rattle.ct_base.specs.declared.limits.LimitKind.{LimitKind}
 use Rattle.ct_syntax.specs.Depths.{all_room, or_else}
-use Rattle.ct_parts.specs.declared.reach.Nest.{Nest}
-use Rattle.ct_parts.specs.declared.reach.Nest.TheVariants.{Expression as OfExpression, Declarator as OfDeclarator, Statement as OfStatement}
+use Rattle.ct_parser_parts.specs.declared.reach.Nest.{Nest}
+use Rattle.ct_parser_parts.specs.declared.reach.Nest.TheVariants.{Expression as OfExpression, Declarator as OfDeclarator, Statement as OfStatement}
 use Rattle.ct_parser.proofs.ReachLaws.{both_flat, flat_both, both-assoc, passed-both, parts_pass}
-use Rattle.ct_parser.proofs.Map.{map_aimed, Hom}
+use Rattle.ct_grammar_laws.proofs.Map.{map_aimed, Hom}
 
 -- ---- depths
 
@@ -181,10 +181,10 @@ spec_same ws vs m n y z a b e f g h =
     ∙ ap (λ x. record { words = vs; wholes = n; typedef = z; names = x }) h
 
 -- a specifier that is a whole type by itself
-whole_info : (ss us : t.Specs) (ns : Names) → words_of us ≡ [] → whole_types us ≡ 1 → is_typedef us ≡ false → names_specs us ≡ ns → ◌≡◌ {A = SpecInfo} (with_whole (info_of specs ss) ns) (info_of specs (specs_then ss us))
+whole_info : (ss us : t.Specs) (ns : Names) → specifier_words us ≡ [] → whole_types us ≡ 1 → is_typedef us ≡ false → names_specs us ≡ ns → ◌≡◌ {A = SpecInfo} (with_whole (info_of specs ss) ns) (info_of specs (specs_then ss us))
 whole_info ss us ns e f g k =
     spec_same _ _ _ _ _ _ _ _
-    (sym (words_then ss us ∙ ap (λ z. words_of ss ++ z) e ∙ no_more (words_of ss)))
+    (sym (words_then ss us ∙ ap (λ z. specifier_words ss ++ z) e ∙ no_more (specifier_words ss)))
     (omega (arith, whole_then ss us, f))
     (sym (is_typedef-then ss us ∙ ap (λ z. is_typedef ss || z) g ∙ or_false (is_typedef ss)))
     (sym (names_specs-then ss us ∙ ap (λ z. names_specs ss ++ z) k))
@@ -208,24 +208,24 @@ some_whole n z = ap (λ y. z && y) (not_zero (n + 1 == 0) refl) ∙ and_false z
     not_zero false e = refl
     not_zero true e = absurd (omega (arith, eqb-true (n + 1) 0 e))
 
-only_void_one : (ss : t.Specs) (d : t.Declarator) → is_only_void (t.parameter ss d t.no_parameter) ≡ ((is_one_void (words_of ss) && (whole_types ss == 0)) && is_nameless d)
+only_void_one : (ss : t.Specs) (d : t.Declarator) → is_only_void (t.parameter ss d t.no_parameter) ≡ ((is_one_void (specifier_words ss) && (whole_types ss == 0)) && is_nameless d)
 only_void_one t.no_spec d = refl
-only_void_one (t.typedef_name u ss) d = sym (ap (λ z. z && is_nameless d) (some_whole (whole_types ss) (is_one_void (words_of ss))))
-only_void_one (t.struct_tag u ss) d = sym (ap (λ z. z && is_nameless d) (some_whole (whole_types ss) (is_one_void (words_of ss))))
-only_void_one (t.struct_list tag ms ss) d = sym (ap (λ z. z && is_nameless d) (some_whole (whole_types ss) (is_one_void (words_of ss))))
-only_void_one (t.enum_tag u ss) d = sym (ap (λ z. z && is_nameless d) (some_whole (whole_types ss) (is_one_void (words_of ss))))
-only_void_one (t.enum_list tag es c ss) d = sym (ap (λ z. z && is_nameless d) (some_whole (whole_types ss) (is_one_void (words_of ss))))
+only_void_one (t.typedef_name u ss) d = sym (ap (λ z. z && is_nameless d) (some_whole (whole_types ss) (is_one_void (specifier_words ss))))
+only_void_one (t.struct_tag u ss) d = sym (ap (λ z. z && is_nameless d) (some_whole (whole_types ss) (is_one_void (specifier_words ss))))
+only_void_one (t.struct_list tag ms ss) d = sym (ap (λ z. z && is_nameless d) (some_whole (whole_types ss) (is_one_void (specifier_words ss))))
+only_void_one (t.enum_tag u ss) d = sym (ap (λ z. z && is_nameless d) (some_whole (whole_types ss) (is_one_void (specifier_words ss))))
+only_void_one (t.enum_list tag es c ss) d = sym (ap (λ z. z && is_nameless d) (some_whole (whole_types ss) (is_one_void (specifier_words ss))))
 only_void_one (t.spec_word sw.Void t.no_spec) t.Nameless = refl
 only_void_one (t.spec_word sw.Void t.no_spec) _ = refl
 only_void_one (t.spec_word sw.Void (t.spec_word k ss)) d = refl
-only_void_one (t.spec_word sw.Void (t.typedef_name u ss)) d = sym (ap (λ z. z && is_nameless d) (some_whole (whole_types ss) (is_one_void (sw.Void ∷ words_of ss))))
-only_void_one (t.spec_word sw.Void (t.struct_tag u ss)) d = sym (ap (λ z. z && is_nameless d) (some_whole (whole_types ss) (is_one_void (sw.Void ∷ words_of ss))))
-only_void_one (t.spec_word sw.Void (t.struct_list tag ms ss)) d = sym (ap (λ z. z && is_nameless d) (some_whole (whole_types ss) (is_one_void (sw.Void ∷ words_of ss))))
-only_void_one (t.spec_word sw.Void (t.enum_tag u ss)) d = sym (ap (λ z. z && is_nameless d) (some_whole (whole_types ss) (is_one_void (sw.Void ∷ words_of ss))))
-only_void_one (t.spec_word sw.Void (t.enum_list tag es c ss)) d = sym (ap (λ z. z && is_nameless d) (some_whole (whole_types ss) (is_one_void (sw.Void ∷ words_of ss))))
+only_void_one (t.spec_word sw.Void (t.typedef_name u ss)) d = sym (ap (λ z. z && is_nameless d) (some_whole (whole_types ss) (is_one_void (sw.Void ∷ specifier_words ss))))
+only_void_one (t.spec_word sw.Void (t.struct_tag u ss)) d = sym (ap (λ z. z && is_nameless d) (some_whole (whole_types ss) (is_one_void (sw.Void ∷ specifier_words ss))))
+only_void_one (t.spec_word sw.Void (t.struct_list tag ms ss)) d = sym (ap (λ z. z && is_nameless d) (some_whole (whole_types ss) (is_one_void (sw.Void ∷ specifier_words ss))))
+only_void_one (t.spec_word sw.Void (t.enum_tag u ss)) d = sym (ap (λ z. z && is_nameless d) (some_whole (whole_types ss) (is_one_void (sw.Void ∷ specifier_words ss))))
+only_void_one (t.spec_word sw.Void (t.enum_list tag es c ss)) d = sym (ap (λ z. z && is_nameless d) (some_whole (whole_types ss) (is_one_void (sw.Void ∷ specifier_words ss))))
 only_void_one (t.spec_word _ ss) d = refl
 
-only_void_last : (ps : t.Parameters) (ss : t.Specs) (d : t.Declarator) → is_only_void (parameters_then ps (t.parameter ss d t.no_parameter)) ≡ (is_empty ps && ((is_one_void (words_of ss) && (whole_types ss == 0)) && is_nameless d))
+only_void_last : (ps : t.Parameters) (ss : t.Specs) (d : t.Declarator) → is_only_void (parameters_then ps (t.parameter ss d t.no_parameter)) ≡ (is_empty ps && ((is_one_void (specifier_words ss) && (whole_types ss == 0)) && is_nameless d))
 only_void_last t.no_parameter ss d = only_void_one ss d
 only_void_last (t.parameter us e ps) ss d = void_more us e (parameters_then ps (t.parameter ss d t.no_parameter)) (more_there ps ss d)
 
@@ -233,8 +233,8 @@ is_empty-last : (ps : t.Parameters) (ss : t.Specs) (d : t.Declarator) → is_emp
 is_empty-last t.no_parameter ss d = refl
 is_empty-last (t.parameter us e ps) ss d = refl
 
-own_names : (d : t.Declarator) (ps : t.Parameters) → (if is_plain d then names_parameters ps else names_parameters (own_parameters d)) ≡ names_parameters (if is_plain d then ps else own_parameters d)
-own_names d ps = by_value (is_plain d)
+own_names : (d : t.Declarator) (ps : t.Parameters) → (if is_plain_declarator d then names_parameters ps else names_parameters (own_parameters d)) ≡ names_parameters (if is_plain_declarator d then ps else own_parameters d)
+own_names d ps = by_value (is_plain_declarator d)
   where
     by_value : (z : Bool) → (if z then names_parameters ps else names_parameters (own_parameters d)) ≡ names_parameters (if z then ps else own_parameters d)
     by_value true = refl
@@ -391,7 +391,7 @@ parts_hom = record {
   array = λ x y. same_part decl _ _ _ _ (fit2 in_declarator (λ p. t.Array p.0 (t.present p.1)) declarator_strict (depth_declarator x) x (depth y) y) (refl);
   function = λ x k y. same_part decl _ _ _ _ (fit2 in_declarator (λ p. t.Function p.0 k p.1) declarator_strict (depth_declarator x) x (depth_parameters y) y) (ap (λ z. record { nameless = false; name = name_of x; plain = false; own = z }) (own_names x y));
   no_parameters = refl;
-  push_parameter = λ x y z. same_part parameters _ _ _ _ (over3 (λ p. parameters_then p.0 (t.parameter p.1.0 p.1.1 t.no_parameter)) (depth_parameters x) x (depth_specs y) y (depth_declarator z) z ∙ at_depth _ _ _ (sym (depth_parameters-last x y z))) (ap (λ v. record { empty = v; only_void = is_empty x && ((is_one_void (words_of y) && (whole_types y == 0)) && is_nameless z); names = names_parameters x ++ (names_specs y ++ name_maybe (name_of z) (is_typedef y)) }) (sym (is_empty-last x y z)) ∙ ap (λ v. record { empty = is_empty (parameters_then x (t.parameter y z t.no_parameter)); only_void = v; names = names_parameters x ++ (names_specs y ++ name_maybe (name_of z) (is_typedef y)) }) (sym (only_void_last x y z)) ∙ ap (λ v. record { empty = is_empty (parameters_then x (t.parameter y z t.no_parameter)); only_void = is_only_void (parameters_then x (t.parameter y z t.no_parameter)); names = v }) (sym (names_parameters-last x y z)));
+  push_parameter = λ x y z. same_part parameters _ _ _ _ (over3 (λ p. parameters_then p.0 (t.parameter p.1.0 p.1.1 t.no_parameter)) (depth_parameters x) x (depth_specs y) y (depth_declarator z) z ∙ at_depth _ _ _ (sym (depth_parameters-last x y z))) (ap (λ v. record { empty = v; only_void = is_empty x && ((is_one_void (specifier_words y) && (whole_types y == 0)) && is_nameless z); names = names_parameters x ++ (names_specs y ++ name_maybe (name_of z) (is_typedef y)) }) (sym (is_empty-last x y z)) ∙ ap (λ v. record { empty = is_empty (parameters_then x (t.parameter y z t.no_parameter)); only_void = v; names = names_parameters x ++ (names_specs y ++ name_maybe (name_of z) (is_typedef y)) }) (sym (only_void_last x y z)) ∙ ap (λ v. record { empty = is_empty (parameters_then x (t.parameter y z t.no_parameter)); only_void = is_only_void (parameters_then x (t.parameter y z t.no_parameter)); names = v }) (sym (names_parameters-last x y z)));
   value_init = λ x. same_part init _ _ _ _ (over_fit t.Value (depth x) x) (refl);
   braces = λ x c. same_part init _ _ _ _ (fit1 in_declarator (λ z. t.Braces z c) declarator_strict (depth_items x) x) (refl);
   no_inits = refl;

@@ -1,9 +1,9 @@
 -- What is reached in two parts and in a construct round parts, and that it tells the limit that is passed first.
 use Rattle.std.proofs.Common.{◌≡◌, ℕ, zero, suc, ◌+◌, ◌-◌, ◌≤◌, ◌<◌, [], ◌∷◌, ◌++◌, None, refl, sym, ap, ◌∙◌, arith, append_assoc}
 use Rattle.ct_syntax.specs.Depths.{Room, Left, all_room, or_else}
-use Rattle.ct_parts.specs.declared.reach.Nest.{Nest}
-use Rattle.ct_parts.specs.declared.reach.Nest.TheVariants.{Expression as OfExpression, Declarator as OfDeclarator, Statement as OfStatement}
-use Rattle.ct_parts.specs.Reach.{Depth, flat, expressions_of, declarators_of, statements_of, beyond, both, shortened, nested, passed_by}
+use Rattle.ct_parser_parts.specs.declared.reach.Nest.{Nest}
+use Rattle.ct_parser_parts.specs.declared.reach.Nest.TheVariants.{Expression as OfExpression, Declarator as OfDeclarator, Statement as OfStatement}
+use Rattle.ct_parser_parts.specs.Reach.{Depth, flat, expressions_of, declarators_of, statements_of, beyond, both, shortened, nested, passed_by}
 
 -- ---- numbers
 

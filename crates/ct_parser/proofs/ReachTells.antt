@@ -2,8 +2,8 @@
 use Rattle.std.proofs.Common.{◌≡◌, zero, suc, List, [], ◌∷◌, Option, Some, None, refl, ap, ◌∙◌, arith}
 use Rattle.ct_base.specs.declared.limits.LimitKind.{LimitKind}
 use Rattle.ct_syntax.specs.Depths.{Room, Left, in_expression as enter_expression, in_declarator as enter_declarator, in_statement as enter_statement, or_else, passed, passed_list, passed_optional, passed_specs, passed_members, passed_enumerators, passed_declarators, passed_declarator, passed_parameters, passed_designator, passed_initialiser, passed_items, passed_start, passed_init_declarators, passed_declaration, passed_maybe, passed_for_start, passed_statement, passed_branches, passed_other, passed_body, passed_item, passed_unit}
-use Rattle.ct_parts.specs.declared.reach.Nest.TheVariants.{Expression as OfExpression, Declarator as OfDeclarator, Statement as OfStatement}
-use Rattle.ct_parts.specs.Reach.{Depth, flat, both, in_expression, in_declarator, in_statement, passed_by, depth, depths, depth_optional, depth_specs, depth_members, depth_enumerators, depth_declarators, depth_declarator, depth_parameters, depth_designator, depth_initialiser, depth_items, depth_start, depth_init_declarators, depth_declaration, depth_maybe, depth_for_start, depth_statement, depth_branches, depth_other, depth_body, depth_item, depth_unit}
+use Rattle.ct_parser_parts.specs.declared.reach.Nest.TheVariants.{Expression as OfExpression, Declarator as OfDeclarator, Statement as OfStatement}
+use Rattle.ct_parser_parts.specs.Reach.{Depth, flat, both, in_expression, in_declarator, in_statement, passed_by, depth, depths, depth_optional, depth_specs, depth_members, depth_enumerators, depth_declarators, depth_declarator, depth_parameters, depth_designator, depth_initialiser, depth_items, depth_start, depth_init_declarators, depth_declaration, depth_maybe, depth_for_start, depth_statement, depth_branches, depth_other, depth_body, depth_item, depth_unit}
 use Rattle.ct_parser.proofs.ReachLaws.{InRoom, passed-both, passed-nested}
 use Rattle.ct_syntax.specs.Trees.{Expression, Name, Number, Character, Strings, Paren, Index, Call, Member, Postfix, Prefix, Unary, SizeofValue, SizeofType, Cast, Infix, Conditional, Assign, Comma}
 use Rattle.ct_syntax.specs.Trees.{Expressions, no_expression, expression, Optional, absent, present}

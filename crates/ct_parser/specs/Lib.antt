@@ -1,2 +1,3 @@
-pub mod Reading
 pub mod Parses
+pub mod Unsupported
+pub mod Progress

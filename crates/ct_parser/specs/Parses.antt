@@ -5,19 +5,19 @@ use Rattle.ct_base.specs.declared.lexical.Token.{Token}
 use Rattle.ct_base.specs.declared.limits.LimitKind.{LimitKind}
 use Rattle.ct_syntax.specs.Words.{words}
 use Rattle.ct_syntax.specs.Scopes.{Scope, no_names, after_unit}
-use Rattle.ct_syntax.specs.Grammar.{IsUnit}
+use Rattle.ct_syntax.specs.Grammar.{IsTranslationUnit}
 use Rattle.ct_syntax.specs.Spelling.{spell_unit}
 use Rattle.ct_syntax.specs.Depths.{all_room, passed_item}
-use Rattle.ct_syntax.specs.Units.{Spells, IsShallow, Unspelled, TooDeep}
+use Rattle.ct_syntax.specs.Units.{SpellsUnit, IsShallow, Unspelled, TooDeep}
 use Rattle.ct_syntax.specs.Trees as t
-use Rattle.ct_parts.specs.Algebra.{items}
-use Rattle.ct_parts.specs.Parts.{Part}
-use Rattle.ct_parts.specs.Reach.{passed_by}
+use Rattle.ct_grammar_machine.specs.Algebra.{items}
+use Rattle.ct_parser_parts.specs.Parts.{Part}
+use Rattle.ct_parser_parts.specs.Reach.{passed_by}
 
 -- No tree spells the tokens, and the first declaration that none spells begins with that token; or a tree spells
 -- them, and its first item that passes a limit of depth begins there.
 abbrev pub Cause : List Token → Token → List Token → Option LimitKind → Type 0
-Cause before token after None = Unspelled before token after × ((is : List t.Item) → Spells is (words (before ++ token ∷ after)) → ⊥)
+Cause before token after None = Unspelled before token after × ((is : List t.Item) → SpellsUnit is (words (before ++ token ∷ after)) → ⊥)
 Cause before token after (Some kind) = TooDeep before token after kind
 
 -- a refusal at the place of a token
@@ -31,7 +31,7 @@ pub record Refused (tokens : List Token) (span : Span) (limit : Option LimitKind
 
 -- the items are the tree that spells the tokens, and pass no limit of depth
 abbrev pub Parsed : List Token → List t.Item → Type 0
-Parsed tokens all = Spells all (words tokens) × IsShallow all
+Parsed tokens all = SpellsUnit all (words tokens) × IsShallow all
 
 -- What is built of the items so far: all of them, or the place of the first one that passes a limit, and which.
 abbrev pub Reached : List Token → List t.Item → List t.Item → Option (ℕ × LimitKind) → Type 0
@@ -44,7 +44,7 @@ Reached tokens is kept (Some (place, kind)) =
 -- the tokens before a place are items
 pub record Progress (tokens : List Token) (place : ℕ) (scope : Scope) (kept : List t.Item) (deep : Option (ℕ × LimitKind)) : Type 0 where
   pub all : List t.Item
-  pub is_unit : IsUnit no_names all
+  pub is_unit : IsTranslationUnit no_names all
   pub spelled : spell_unit all (words (drop place tokens)) ≡ words tokens
   pub scope_is : scope ≡ after_unit no_names all
   pub reached : Reached tokens all kept deep

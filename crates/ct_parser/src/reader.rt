@@ -3,13 +3,13 @@
 ghost use Rattle.std.specs.Prelude.{◌≡◌, map, IfOk};
 ghost use Rattle.ct_base.specs.Answers.{IfFault};
 ghost use Rattle.ct_parser.specs.Parses.{Parsed, Refused, items_after, deep_after};
-ghost use Rattle.ct_parts.specs.Views.{items_part};
+ghost use Rattle.ct_parser_parts.specs.Views.{items_part};
 ghost use Rattle.ct_syntax.specs.UnitViews.{view_item};
 
 use crate::items::read_item;
 use ct_base::{Fail, LimitKind, Mem, Out, Span, Token};
-use ct_open::Open;
-use ct_parts::{Built, passed};
+use ct_parser_parts::{Built, passed};
+use ct_parser_state::ParserState;
 use ct_syntax::{Item, Tree};
 use std::alloc::Global;
 use thiserror::Error;
@@ -52,7 +52,7 @@ pub fn parse(alloc: Global, tokens: &[Token]) -> Out<Tree, SyntaxFault>
     ensures parsed { IfOk result (λ tree. Parsed tokens.now (map view_item tree.items.items)) }
     ensures refused { IfFault result (λ fault. Refused tokens.now fault.span fault.limit) }
 {
-    let mut state = Open::new(alloc);
+    let mut state = ParserState::new(alloc);
     let mut items = Vec::new(alloc);
     let mut deep = None;
     let mut place = 0;

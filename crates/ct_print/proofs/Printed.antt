@@ -15,8 +15,9 @@ use Rattle.ct_syntax.specs.declared.words.Mark.TheVariants.{Semicolon, OpenBrace
 use Rattle.ct_syntax.specs.Words.{Word, Named, Numbered, Quote, Literal, Sign, Key, Stray, mark_text, keyword_text, marks, keywords, is_left_out, mark_of, keyword_of, key_or, sign_or, word_by, word, words, is_text, text_tokens}
 use Rattle.ct_syntax.specs.Trees.{Item}
 use Rattle.ct_syntax.specs.Spelling.{spell_unit}
-use Rattle.ct_syntax.specs.Units.{Spells}
 use Rattle.ct_base.specs.Bytes.{is_nondigit}
+use Rattle.ct_syntax.specs.Scopes.{Scope}
+use Rattle.ct_syntax.specs.Units.{SpellsItems}
 use Rattle.ct_token.specs.Lines.{Placed, joined, joined_bytes, joined_lines}
 use Rattle.ct_token.specs.Lexing.{is_punctuator, IsToken, IsLongest, begins_comment, Piece, Blank, Word as Piece_word, bytes_of, IsPiece, spelled, ArePieces, tokens_of, IsTokenization}
 use Rattle.ct_print.specs.Text.{word_text, gap_behind, text_of}
@@ -179,18 +180,18 @@ words_of_pieces (t ∷ ts) h file lines place spaced =
     words_kept _ (tokens_of file lines (place + length t.text) false (gap_piece (word t) ∷ pieces_of ts)) (wordly_is_text t.kind (wordly t.kind t.text h.0.known))
     ∙ ap (λ ws. word t ∷ ws) (behind_gap (word t) (pieces_of ts) (words ts) file lines (words_of_pieces ts h.1 file lines) (place + length t.text) false)
 
-printed : (items : List Item) (file : ℕ) (ts : List Token) → Spells items (words ts) → AllByRecursion IsReady ts → IsTextOf items file (text_of (words ts))
-printed items file ts spells h =
+printed : (scope : Scope) (items : List Item) (file : ℕ) (ts : List Token) → SpellsItems scope items (words ts) → AllByRecursion IsReady ts → IsTextOf scope items file (text_of (words ts))
+printed scope items file ts spells h =
     let text = text_of (words ts) in
     record {
       tokens = tokens_of file (joined_lines text) 0 false (pieces_of ts);
       tokenization = (pieces_of ts, joined_same 1 text (joins_nothing ts h) ∙ sym (spelled_pieces ts h), are_pieces ts h, refl);
-      spells = subst (Spells items) (sym (words_of_pieces ts h file (joined_lines text) 0 false)) spells;
+      spells = subst (SpellsItems scope items) (sym (words_of_pieces ts h file (joined_lines text) 0 false)) spells;
     }
 
 -- A tree that spells some list of tokens that stand alone spells the tokens of its printed text.
-pub printed_tokens : (items : List Item) (file : ℕ) → IsPrintable items → IsTextOf items file (text_of (spell_unit items []))
-printed_tokens items file p =
+pub printed_tokens : (scope : Scope) (items : List Item) (file : ℕ) → IsPrintable scope items → IsTextOf scope items file (text_of (spell_unit items []))
+printed_tokens scope items file p =
     let known : none_stray (words p.tokens) ≡ true = ap none_stray (sym p.spells.spelled) ∙ none_stray_in items [] refl in
-    subst (λ ws. IsTextOf items file (text_of ws)) (sym p.spells.spelled)
-    (printed items file p.tokens p.spells (ready p.tokens known (recursion_from_All StandsAlone p.tokens p.alone)))
+    subst (λ ws. IsTextOf scope items file (text_of ws)) (sym p.spells.spelled)
+    (printed scope items file p.tokens p.spells (ready p.tokens known (recursion_from_All StandsAlone p.tokens p.alone)))

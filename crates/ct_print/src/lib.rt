@@ -8,6 +8,7 @@ mod statements;
 mod words;
 
 ghost use Rattle.std.specs.Prelude.{◌≡◌, ℕ, List, [], ◌++◌, IfOk, OnOk, OnErr};
+ghost use Rattle.ct_syntax.specs.Scopes.{Scope};
 ghost use Rattle.ct_syntax.specs.Spelling.{spell_unit};
 ghost use Rattle.ct_syntax.specs.UnitViews.{view_tree};
 ghost use Rattle.ct_print.specs.Printed.{IsPrintable, IsTextOf};
@@ -22,9 +23,9 @@ use std::alloc::Global;
 /// other one. For want of memory `into` stays as it was.
 pub fn print(alloc: Global, tree: &Tree, into: &mut Vec<u8>) -> Mem<()>
     ensures text { OnOk result (into.new.items ≡ into.old.items ++ text_of (spell_unit (view_tree tree.now) [])) }
-    // A tree that spells tokens of which each is the one token of its text spells those of what is appended.
-    ensures tokens { OnOk result (IsPrintable (view_tree tree.now) → (file : ℕ) (more : List ℕ) →
-        into.new.items ≡ into.old.items ++ more → IsTextOf (view_tree tree.now) file more) }
+    // Items that spell tokens, in a scope, of which each is the one token of its text spell those of what is appended.
+    ensures tokens { OnOk result ((scope : Scope) → IsPrintable scope (view_tree tree.now) → (file : ℕ) (more : List ℕ) →
+        into.new.items ≡ into.old.items ++ more → IsTextOf scope (view_tree tree.now) file more) }
     ensures kept { OnErr result (into.new.items ≡ into.old.items) }
 {
     let text = printed_text(alloc, tree)?;

@@ -6,7 +6,7 @@ ghost use Rattle.ct_syntax.specs.Words.{Named, Numbered, Quote, Literal, Sign, K
 ghost use Rattle.ct_syntax.specs.Spelling.{spell_texts, spell_qualifiers, spell_tag, spell_comma, spell_form};
 ghost use Rattle.ct_print.specs.Text.{Appends, gap_behind};
 
-use crate::words::{keyword_bytes, mark_bytes, qualifier_keyword};
+use crate::words::qualifier_keyword;
 use ct_base::{Bytes, Mem};
 use ct_syntax::{Keyword, Mark, ParameterForm, Qualifier, SpecWord};
 
@@ -33,14 +33,14 @@ fn gap_behind_mark(mark: Mark) -> u8
 pub(crate) fn put_mark(mark: Mark, into: &mut Vec<u8>) -> Mem<()>
     ensures { OnOk result (Appends into.old.items into.new.items (λ rest. Sign mark ∷ rest)) }
 {
-    put(mark_bytes(mark), gap_behind_mark(mark), into)
+    put(mark.text(), gap_behind_mark(mark), into)
 }
 
 /// Appends a keyword and a space.
 pub(crate) fn put_keyword(keyword: Keyword, into: &mut Vec<u8>) -> Mem<()>
     ensures { OnOk result (Appends into.old.items into.new.items (λ rest. Key keyword ∷ rest)) }
 {
-    put(keyword_bytes(keyword), b' ', into)
+    put(keyword.text(), b' ', into)
 }
 
 /// Appends a name, a number, a character constant or a string literal, and a space.

@@ -43,17 +43,17 @@ infix_level (i.Number b.Remainder) = 13
 
 -- The production that an expression is of: 1 is expr, 2 assign, 3 cond, 4 to 13 binary, 14 cast, 15 unary and
 -- 16 postfix, primary included. One of a higher level may stand where one of a lower level is asked for.
-abbrev pub level : Expression → ℕ
-level (Comma x y) = 1
-level (Assign o x y) = 2
-level (Conditional c x y) = 3
-level (Infix o x y) = infix_level o
-level (Cast ss d x) = 14
-level (Prefix o x) = 15
-level (Unary o x) = 15
-level (SizeofValue x) = 15
-level (SizeofType ss d) = 15
-level _ = 16
+abbrev pub expression_level : Expression → ℕ
+expression_level (Comma x y) = 1
+expression_level (Assign o x y) = 2
+expression_level (Conditional c x y) = 3
+expression_level (Infix o x y) = infix_level o
+expression_level (Cast ss d x) = 14
+expression_level (Prefix o x) = 15
+expression_level (Unary o x) = 15
+expression_level (SizeofValue x) = 15
+expression_level (SizeofType ss d) = 15
+expression_level _ = 16
 
 -- a pointer stands in no declarator before brackets or a parameter list, but in parentheses
 abbrev pub is_direct : Declarator → Bool
@@ -109,28 +109,28 @@ abbrev mutual
   IsExpression scope (Character t) = Unit {0}
   IsExpression scope (Strings t ts) = Unit {0}
   IsExpression scope (Paren x) = IsExpression scope x
-  IsExpression scope (Index x i) = (16 ≤ level x) × IsExpression scope x × IsExpression scope i
-  IsExpression scope (Call f xs) = (16 ≤ level f) × IsExpression scope f × AreArguments scope xs
-  IsExpression scope (Member x o t) = (16 ≤ level x) × IsExpression scope x
-  IsExpression scope (Postfix x o) = (16 ≤ level x) × IsExpression scope x
-  IsExpression scope (Prefix o x) = (15 ≤ level x) × IsExpression scope x
-  IsExpression scope (Unary o x) = (14 ≤ level x) × IsExpression scope x
-  IsExpression scope (SizeofValue x) = (15 ≤ level x) × IsExpression scope x
+  IsExpression scope (Index x i) = (16 ≤ expression_level x) × IsExpression scope x × IsExpression scope i
+  IsExpression scope (Call f xs) = (16 ≤ expression_level f) × IsExpression scope f × AreArguments scope xs
+  IsExpression scope (Member x o t) = (16 ≤ expression_level x) × IsExpression scope x
+  IsExpression scope (Postfix x o) = (16 ≤ expression_level x) × IsExpression scope x
+  IsExpression scope (Prefix o x) = (15 ≤ expression_level x) × IsExpression scope x
+  IsExpression scope (Unary o x) = (14 ≤ expression_level x) × IsExpression scope x
+  IsExpression scope (SizeofValue x) = (15 ≤ expression_level x) × IsExpression scope x
   IsExpression scope (SizeofType ss d) = AreSpecs scope ss × (form_type ss ≡ true) × (name_of d ≡ None) × IsDeclarator true (after_specs scope ss) d
-  IsExpression scope (Cast ss d x) = (14 ≤ level x) × IsExpression scope x × AreSpecs scope ss × (form_type ss ≡ true) × (name_of d ≡ None) × IsDeclarator true (after_specs scope ss) d
-  IsExpression scope (Infix o x y) = (infix_level o ≤ level x) × (infix_level o + 1 ≤ level y) × IsExpression scope x × IsExpression scope y
-  IsExpression scope (Conditional c x y) = (4 ≤ level c) × (3 ≤ level y) × IsExpression scope c × IsExpression scope x × IsExpression scope y
-  IsExpression scope (Assign o x y) = (15 ≤ level x) × (2 ≤ level y) × IsExpression scope x × IsExpression scope y
-  IsExpression scope (Comma x y) = (2 ≤ level y) × IsExpression scope x × IsExpression scope y
+  IsExpression scope (Cast ss d x) = (14 ≤ expression_level x) × IsExpression scope x × AreSpecs scope ss × (form_type ss ≡ true) × (name_of d ≡ None) × IsDeclarator true (after_specs scope ss) d
+  IsExpression scope (Infix o x y) = (infix_level o ≤ expression_level x) × (infix_level o + 1 ≤ expression_level y) × IsExpression scope x × IsExpression scope y
+  IsExpression scope (Conditional c x y) = (4 ≤ expression_level c) × (3 ≤ expression_level y) × IsExpression scope c × IsExpression scope x × IsExpression scope y
+  IsExpression scope (Assign o x y) = (15 ≤ expression_level x) × (2 ≤ expression_level y) × IsExpression scope x × IsExpression scope y
+  IsExpression scope (Comma x y) = (2 ≤ expression_level y) × IsExpression scope x × IsExpression scope y
 
   pub AreArguments : Scope → Expressions → Type 0
   AreArguments scope no_expression = Unit {0}
-  AreArguments scope (expression x xs) = (2 ≤ level x) × IsExpression scope x × AreArguments scope xs
+  AreArguments scope (expression x xs) = (2 ≤ expression_level x) × IsExpression scope x × AreArguments scope xs
 
   -- an expression of at least a level, or none
   pub IsOptional : ℕ → Scope → Optional → Type 0
   IsOptional least scope absent = Unit {0}
-  IsOptional least scope (present x) = (least ≤ level x) × IsExpression scope x
+  IsOptional least scope (present x) = (least ≤ expression_level x) × IsExpression scope x
 
   pub AreSpecs : Scope → Specs → Type 0
   AreSpecs scope no_spec = Unit {0}
@@ -172,7 +172,7 @@ abbrev mutual
 abbrev pub IsDesignator : Scope → Designator → Type 0
 IsDesignator scope Next = Unit {0}
 IsDesignator scope (OfMember t) = Unit {0}
-IsDesignator scope (OfIndex x) = (3 ≤ level x) × IsExpression scope x
+IsDesignator scope (OfIndex x) = (3 ≤ expression_level x) × IsExpression scope x
 
 abbrev pub has_items : InitialiserItems → Bool
 has_items no_item = false
@@ -180,25 +180,25 @@ has_items _ = true
 
 abbrev mutual
   pub IsInitialiser : Scope → Initialiser → Type 0
-  IsInitialiser scope (Value x) = (2 ≤ level x) × IsExpression scope x
+  IsInitialiser scope (Value x) = (2 ≤ expression_level x) × IsExpression scope x
   IsInitialiser scope (Braces is comma) = ((comma && not (has_items is)) ≡ false) × AreItems scope is
 
   pub AreItems : Scope → InitialiserItems → Type 0
   AreItems scope no_item = Unit {0}
   AreItems scope (item g v is) = IsDesignator scope g × IsInitialiser scope v × AreItems scope is
 
-abbrev pub IsStart : Scope → Option Initialiser → Type 0
-IsStart scope None = Unit {0}
-IsStart scope (Some v) = IsInitialiser scope v
+abbrev pub IsOptionalInitialiser : Scope → Option Initialiser → Type 0
+IsOptionalInitialiser scope None = Unit {0}
+IsOptionalInitialiser scope (Some v) = IsInitialiser scope v
 
 abbrev pub AreInitDeclarators : Scope → Specs → List InitDeclarator → Type 0
 AreInitDeclarators scope ss [] = Unit {0}
 AreInitDeclarators scope ss (d ∷ ds) =
-    IsDeclarator false scope d.declarator × IsStart (after_declarator scope ss d.declarator) d.start × AreInitDeclarators (after_declarator scope ss d.declarator) ss ds
+    IsDeclarator false scope d.declarator × IsOptionalInitialiser (after_declarator scope ss d.declarator) d.start × AreInitDeclarators (after_declarator scope ss d.declarator) ss ds
 
 abbrev pub IsDeclaration : Scope → Declaration → Type 0
 IsDeclaration scope (Declare ss ds) = AreSpecs scope ss × (form_type ss ≡ true) × AreInitDeclarators (after_specs scope ss) ss ds
-IsDeclaration scope (Assert x t) = (3 ≤ level x) × IsExpression scope x
+IsDeclaration scope (Assert x t) = (3 ≤ expression_level x) × IsExpression scope x
 
 abbrev pub IsMaybe : Scope → Option Expression → Type 0
 IsMaybe scope None = Unit {0}
@@ -214,15 +214,15 @@ is_if _ = false
 
 -- whether an `else` behind it would be its own
 abbrev mutual
-  pub is_open : Statement → Bool
-  is_open (If bs o) = is_open_other o
-  is_open (While c s) = is_open s
-  is_open (For f c e s) = is_open s
-  is_open _ = false
+  pub takes_else : Statement → Bool
+  takes_else (If bs o) = other_takes_else o
+  takes_else (While c s) = takes_else s
+  takes_else (For f c e s) = takes_else s
+  takes_else _ = false
 
-  pub is_open_other : Other → Bool
-  is_open_other no_else = true
-  is_open_other (else_do s) = is_open s
+  pub other_takes_else : Other → Bool
+  other_takes_else no_else = true
+  other_takes_else (else_do s) = takes_else s
 
 -- whether an `else` stands behind a branch that these branches follow
 abbrev pub is_followed : Branches → Other → Bool
@@ -249,7 +249,7 @@ abbrev mutual
   -- An `else` belongs to the nearest `if`, so no branch before one ends in an open `if`.
   pub AreBranches : Scope → Branches → Other → Type 0
   AreBranches scope no_branch o = Unit {0}
-  AreBranches scope (branch c s bs) o = IsExpression scope c × ((is_followed bs o && is_open s) ≡ false) × IsStatement scope s × AreBranches scope bs o
+  AreBranches scope (branch c s bs) o = IsExpression scope c × ((is_followed bs o && takes_else s) ≡ false) × IsStatement scope s × AreBranches scope bs o
 
   -- An `if` right behind an `else` is a branch of the same ladder.
   pub IsOther : Scope → Other → Type 0
@@ -259,7 +259,7 @@ abbrev mutual
   -- what stands in braces, where it is said whether labels may stand there
   pub IsBody : Bool → Scope → Body → Type 0
   IsBody labels scope no_part = Unit {0}
-  IsBody labels scope (case_label x b) = (labels ≡ true) × (3 ≤ level x) × IsExpression scope x × IsBody labels scope b
+  IsBody labels scope (case_label x b) = (labels ≡ true) × (3 ≤ expression_level x) × IsExpression scope x × IsBody labels scope b
   IsBody labels scope (default_label b) = (labels ≡ true) × IsBody labels scope b
   IsBody labels scope (declared d b) = IsDeclaration scope d × IsBody labels (after_declaration scope d) b
   IsBody labels scope (stated s b) = IsStatement scope s × IsBody labels scope b
@@ -269,6 +269,6 @@ IsItem scope (Definition ss d b) = AreSpecs scope ss × (form_type ss ≡ true) 
 IsItem scope (Outside d) = IsDeclaration scope d
 IsItem scope Lone = Unit {0}
 
-abbrev pub IsUnit : Scope → List Item → Type 0
-IsUnit scope [] = Unit {0}
-IsUnit scope (i ∷ is) = IsItem scope i × IsUnit (after_item scope i) is
+abbrev pub IsTranslationUnit : Scope → List Item → Type 0
+IsTranslationUnit scope [] = Unit {0}
+IsTranslationUnit scope (i ∷ is) = IsItem scope i × IsTranslationUnit (after_item scope i) is

@@ -83,14 +83,14 @@ after_for_start scope (StartDeclaration d) = after_declaration scope d
 after_for_start scope (StartValue x) = scope
 
 -- a name, in parentheses or not
-abbrev pub is_plain : Declarator → Bool
-is_plain (Called t) = true
-is_plain (Group d) = is_plain d
-is_plain _ = false
+abbrev pub is_plain_declarator : Declarator → Bool
+is_plain_declarator (Called t) = true
+is_plain_declarator (Group d) = is_plain_declarator d
+is_plain_declarator _ = false
 
 -- The parameter list of the function that a declarator names: the one right behind the name.
 abbrev pub own_parameters : Declarator → Parameters
-own_parameters (Function d f ps) = if is_plain d then ps else own_parameters d
+own_parameters (Function d f ps) = if is_plain_declarator d then ps else own_parameters d
 own_parameters (Group d) = own_parameters d
 own_parameters (Pointer qs d) = own_parameters d
 own_parameters (Array d size) = own_parameters d

@@ -46,14 +46,14 @@ type_lists =
     ∷ []
 
 -- the words of specifiers
-abbrev pub words_of : Specs → List SpecWord
-words_of no_spec = []
-words_of (spec_word w ss) = w ∷ words_of ss
-words_of (typedef_name t ss) = words_of ss
-words_of (struct_tag t ss) = words_of ss
-words_of (struct_list tag ms ss) = words_of ss
-words_of (enum_tag t ss) = words_of ss
-words_of (enum_list tag es comma ss) = words_of ss
+abbrev pub specifier_words : Specs → List SpecWord
+specifier_words no_spec = []
+specifier_words (spec_word w ss) = w ∷ specifier_words ss
+specifier_words (typedef_name t ss) = specifier_words ss
+specifier_words (struct_tag t ss) = specifier_words ss
+specifier_words (struct_list tag ms ss) = specifier_words ss
+specifier_words (enum_tag t ss) = specifier_words ss
+specifier_words (enum_list tag es comma ss) = specifier_words ss
 
 -- how many of them are a whole type by themselves: a struct, an enumeration or a typedef name
 abbrev pub whole_types : Specs → ℕ
@@ -68,5 +68,5 @@ whole_types (enum_list tag es comma ss) = whole_types ss + 1
 -- one of the lists of 6.7.2p2, or one whole type alone; the other words stand beside it in any order
 abbrev pub form_type : Specs → Bool
 form_type ss =
-    ((whole_types ss == 0) && list_any (same_words (words_of ss)) type_lists)
-    || ((whole_types ss == 1) && same_words (words_of ss) [])
+    ((whole_types ss == 0) && list_any (same_words (specifier_words ss)) type_lists)
+    || ((whole_types ss == 1) && same_words (specifier_words ss) [])

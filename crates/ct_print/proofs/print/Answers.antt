@@ -12,7 +12,7 @@ returns-clause-text c =
     c.in_ok-extend_from_slice.ensures.items ∙ ap (λ s. c.args.into.now.items ++ s) (c.as_slice.ensures.value ∙ c.in_ok-text.ensures)
 
 pub returns-clause-tokens : goal.returns-clause-tokens
-returns-clause-tokens c printable file more e =
-    subst (IsTextOf (view_tree c.args.tree.now) file)
+returns-clause-tokens c scope printable file more e =
+    subst (IsTextOf scope (view_tree c.args.tree.now) file)
     (append_cancel_left c.args.into.now.items (text_of (spell_unit (view_tree c.args.tree.now) [])) more (sym (returns-clause-text c) ∙ e))
-    (printed_tokens (view_tree c.args.tree.now) file printable)
+    (printed_tokens scope (view_tree c.args.tree.now) file printable)

@@ -2,10 +2,10 @@ use Rattle.std.proofs.Common.{◌≡◌, [], ◌∷◌, None, map, drop, get_or}
 use Rattle.std.proofs.lemmas.Option.{slice_get-get_or}
 use Rattle.ct_syntax.specs.Words.{words}
 use Rattle.ct_syntax.specs.UnitViews.{view_item}
-use Rattle.ct_parts.specs.Parts.{parts_built}
-use Rattle.ct_open.specs.Code.{scope}
-use Rattle.ct_open.specs.Frames.{InUnit, Begin}
-use Rattle.ct_parser.specs.Reading.{read_item}
+use Rattle.ct_parser_parts.specs.Parts.{parts_built}
+use Rattle.ct_parser_state.specs.Code.{scope}
+use Rattle.ct_grammar_machine.specs.Frames.{InUnit, Begin}
+use Rattle.ct_grammar_machine.specs.Reading.{read_item}
 use Rattle.ct_parser.proofs.OneMore.{no_more, deep_finished, deep_within}
 use Rattle.ct_parser.proofs.reader.parse.Goals as goal
 

@@ -1,6 +1,6 @@
 use Rattle.std.proofs.Common.{◌≡◌, ◌≤◌, ◌-◌, [], length, map}
 use Rattle.ct_syntax.specs.UnitViews.{view_item}
-use Rattle.ct_open.specs.Code.{frames, scope}
+use Rattle.ct_parser_state.specs.Code.{frames, scope}
 use Rattle.ct_parser.specs.Parses.{Progress}
 use Rattle.ct_parser.proofs.reader.parse.Given as goal
 

@@ -1,0 +1,4 @@
+pub mod Algebra
+pub mod Frames
+pub mod Steps
+pub mod Reading

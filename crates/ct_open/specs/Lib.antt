@@ -1,4 +1,0 @@
-pub mod Frames
-pub mod Steps
-pub mod Terminals
-pub mod Code

@@ -1,0 +1,18 @@
+use Rattle.std.proofs.Common.{◌≡◌, Some, None, option_map, ap, ap₂, sym, ◌∙◌, ◌++◌, [], ◌∷◌, Vec, Box, Global}
+use Rattle.std.proofs.lemmas.Result.{IfOk-weaker}
+use Rattle.ct_syntax.specs.Trees as t
+use Rattle.ct_syntax.specs.declared.expressions.Expr.{Expr}
+use Rattle.ct_syntax.specs.Views.{view, view_declarator, expressions_of, specs_of}
+use Rattle.ct_grammar_machine.specs.Algebra.{expr, stmt, decl, init, specs}
+use Rattle.ct_parser_parts.specs.Parts.{make, one, pair, over, with_whole, built_of}
+use Rattle.ct_parser_parts.specs.Reach.{in_expression, in_declarator, in_statement}
+use Rattle.ct_syntax.proofs.Views.{view_Call}
+use Rattle.ct_parser_parts.proofs.Rules.{built_two}
+use Rattle.ct_parser_parts.proofs.expressions.call.Goals as goal
+
+pub returns : goal.returns
+returns c =
+    IfOk-weaker c.shallow.result _ _ (λ p is. is ∙ ap (λ b. make expr b 16)
+    (built_two (λ (b : Box Expr Global). view b.value) (λ (v : Vec Expr Global). expressions_of v.items) (λ q. t.Call q.0 q.1) in_expression
+    _ _ _ _ _ _ _ _ (c.in-Some.function, c.in-Some.arguments) _ c.in_ok-operands.ensures.0 c.in_ok-operands.ensures.1 c.in_ok-tree.ensures.0 c.in_ok-tree.ensures.1 c.in-Some.is (view_Call c.args.function.span c.in-Some.function c.in-Some.arguments)))
+    c.shallow.ensures

@@ -1,0 +1,4 @@
+pub mod Reach
+pub mod Taking
+pub mod Parts
+pub mod Views

@@ -1,5 +1,0 @@
-pub mod Algebra
-pub mod Reach
-pub mod Taking
-pub mod Parts
-pub mod Views

@@ -1,4 +1,0 @@
-pub mod Forms
-pub mod Others
-pub mod Pulls
-pub mod Within
