@@ -7,6 +7,7 @@
 #![tactic(auto)]
 
 mod conversions;
+mod copies;
 mod kinds;
 mod operations;
 mod structs;

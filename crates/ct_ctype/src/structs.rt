@@ -62,9 +62,11 @@ impl Structs {
         Ok(number)
     }
 
-    /// How many structs there are.
+    /// How many structs there are. Their table is sound: each complete struct has the layout that its members have, and
+    /// no struct holds itself, also through others.
     pub fn count(&self) -> usize
-        ensures { result ≡ length self.now }
+        ensures count { result ≡ length self.now }
+        ensures sound { spec.IsSound self.now }
     {
         self.layouts.len()
     }
