@@ -24,7 +24,7 @@ one_step_at true up c from to to' s t = s ∙ sym t
 one_step_at false true c from to to' s t = one_parent to to' s.0 t.0 (sym s.1 ∙ t.1)
 one_step_at false false c from to to' s t = s ∙ sym t
 
-one_step : (c : List ℕ) (from to to' : List (List ℕ)) → Steps c from to → Steps c from to' → to ≡ to'
+pub one_step : (c : List ℕ) (from to to' : List (List ℕ)) → Steps c from to → Steps c from to' → to ≡ to'
 one_step c from to to' s t = one_step_at (is_here c) (is_parent c) c from to to' s t
 
 no_parent : (next : List (List ℕ)) → Steps parent [] next → ⊥

@@ -12,3 +12,5 @@ pub mod Complete
 pub mod Broken
 pub mod OneGroup
 pub mod OneOutline
+mod NoPragma
+mod EachMeaning

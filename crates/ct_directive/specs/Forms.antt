@@ -172,6 +172,21 @@ without_defined macros (first ∷ second ∷ third ∷ fourth ∷ rest) =
 abbrev pub has_operator : List Token → Bool
 has_operator tokens = list_any is_operator tokens
 
+-- ---- the operator `_Pragma` (6.10.9)
+
+-- `_Pragma ( "text" )`
+abbrev pub is_pragma : Token → Token → Token → Token → Bool
+is_pragma word before text behind = is (codes "_Pragma") word && is (codes "(") before && is_text_kind text.kind && is (codes ")") behind
+
+-- tokens without each operator and its operand
+abbrev pub without_pragmas : List Token → List Token
+without_pragmas [] = []
+without_pragmas (first ∷ []) = first ∷ []
+without_pragmas (first ∷ second ∷ []) = first ∷ second ∷ []
+without_pragmas (first ∷ second ∷ third ∷ []) = first ∷ second ∷ third ∷ []
+without_pragmas (first ∷ second ∷ third ∷ fourth ∷ rest) =
+    if is_pragma first second third fourth then without_pragmas rest else first ∷ without_pragmas (second ∷ third ∷ fourth ∷ rest)
+
 -- the first token that begins no preprocessing token
 abbrev pub first_other : List Token → Option Token
 first_other [] = None

@@ -1,4 +1,5 @@
-//! The built-in headers.
+//! The built-in headers. Each is read once. `size_t` stands in each of three that have it, since a type may be named again as the same
+//! (C11 6.7p3): so no macro guards it, and none can take it away.
 
 ghost use Rattle.std.specs.Prelude.{◌≡◌, IfOk};
 ghost use Rattle.std.specs.Option.{option_copied};
@@ -43,10 +44,7 @@ pub const STDBOOL: &str = "#pragma once
 
 /// `stddef.h` (C11 7.19).
 pub const STDDEF: &str = "#pragma once
-#ifndef ceedling_size_t
-#define ceedling_size_t
 typedef unsigned long size_t;
-#endif
 typedef long ptrdiff_t;
 #define NULL ((void *)0)
 ";
@@ -76,10 +74,7 @@ pub const LIMITS: &str = "#pragma once
 
 /// `stdio.h`: `size_t` and `NULL` alone (C11 7.21.1).
 pub const STDIO: &str = "#pragma once
-#ifndef ceedling_size_t
-#define ceedling_size_t
 typedef unsigned long size_t;
-#endif
 #define NULL ((void *)0)
 ";
 
@@ -98,10 +93,7 @@ char *strncpy(char *, const char *, unsigned long);
 
 /// `stdlib.h`: the functions that are built in, `size_t` and `NULL` (C11 7.22).
 pub const STDLIB: &str = "#pragma once
-#ifndef ceedling_size_t
-#define ceedling_size_t
 typedef unsigned long size_t;
-#endif
 #define NULL ((void *)0)
 void *malloc(unsigned long);
 void *calloc(unsigned long, unsigned long);

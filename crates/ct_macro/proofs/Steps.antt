@@ -1,5 +1,5 @@
 -- Each step of an expansion is a rule of its definition.
-use Rattle.std.proofs.Common.{◌≡◌, ℕ, ◌+◌, ◌<◌, ◌≤◌, List, [], ◌∷◌, ◌++◌, length, refl, sym, ap, ◌∙◌, subst, append_assoc, arith, length-append}
+use Rattle.std.proofs.Common.{◌≡◌, ℕ, Bool, false, take, drop, ◌+◌, ◌<◌, ◌≤◌, List, [], ◌∷◌, ◌++◌, length, refl, sym, ap, ◌∙◌, subst, append_assoc, arith, length-append}
 use Rattle.std.proofs.lemmas.List.{append-nil}
 use Rattle.std.specs.Prelude.{Result, Ok, Err, OnOk, IsErrAnd, ◌-◌, ◌*◌}
 use Rattle.ct_base.specs.Answers.{IfFault}
@@ -16,8 +16,8 @@ use Rattle.ct_macro.specs.declared.reading.Step.TheVariants as step
 use Rattle.ct_macro.specs.declared.expander.Frame.{Frame}
 use Rattle.ct_macro.specs.declared.expander.Expander.{Expander}
 use Rattle.ct_macro_call.specs.Substitution.{IsReplacement}
-use Rattle.ct_macro.specs.Expansion.{Reading, kept, refused, replaced, ExpansionOutcome, done, stopped, fault_at, led_by, IsReading, Expands, nothing, keeps, refuses, replaces, ExpandsEach, none, each, ends, Continues, stops, unpasted, passes, again}
-use Rattle.ct_macro.specs.Machine.{StepGives, led_all, Finishes, ResumesOne, Resumes, GoesOn, Comes}
+use Rattle.ct_macro.specs.Expansion.{Reading, kept, refused, replaced, ExpansionOutcome, done, stopped, fault_at, led_by, led_all, stay_behind, IsReading, Expands, nothing, keeps, refuses, replaces, ExpandsEach, none, each, ends, Continues, stops, unpasted, passes, again}
+use Rattle.ct_macro.specs.Machine.{StepGives, Finishes, ResumesOne, Resumes, GoesOn, Comes}
 
 -- ---- answers
 
@@ -71,19 +71,25 @@ led_all_more : {A : Type 0} (xs : List A) (x : A) (o : ExpansionOutcome (List A)
 led_all_more xs x (done rest counted) = ap (λ l. done l counted) (sym (append_assoc xs (x ∷ []) rest))
 led_all_more xs x (stopped fault) = refl
 
+led_all_all : {A : Type 0} (xs ys : List A) (o : ExpansionOutcome (List A)) → led_all xs (led_all ys o) ≡ led_all (xs ++ ys) o
+led_all_all xs ys (done rest counted) = ap (λ l. done l counted) (sym (append_assoc xs ys rest))
+led_all_all xs ys (stopped fault) = refl
+
 module _ (macros : List Macro) (room : ℕ) where
   -- what a state gives, by its parts
-  abbrev pub ComesAt : ℕ → List Frame → List Marked → List Marked → ExpansionOutcome (List Marked) → Type 0
-  ComesAt counted frames before rest outer =
-      (inner : ExpansionOutcome (List Marked)) × Expands macros room counted rest inner × Resumes macros room frames (led_all before inner) outer
+  abbrev pub ComesAt : Bool → ℕ → List Frame → List Marked → List Marked → ExpansionOutcome (List Marked) → Type 0
+  ComesAt condition counted frames before rest outer =
+      (inner : ExpansionOutcome (List Marked)) × Expands macros room condition counted rest inner × Resumes macros room frames (led_all before inner) outer
 
-  pub comes_moved : (counted later : ℕ) (frames frames' : List Frame) (before before' rest rest' : List Marked) (outer : ExpansionOutcome (List Marked))
-      → counted ≡ later → frames ≡ frames' → before ≡ before' → rest ≡ rest' → ComesAt counted frames before rest outer → ComesAt later frames' before' rest' outer
-  comes_moved counted later frames frames' before before' rest rest' outer c f b r comes =
-      subst (λ (n : ℕ). ComesAt n frames' before' rest' outer) c
-      (subst (λ (x : List Frame). ComesAt counted x before' rest' outer) f
-      (subst (λ (d : List Marked). ComesAt counted frames d rest' outer) b
-      (subst (λ (l : List Marked). ComesAt counted frames before l outer) r comes)))
+  pub comes_moved : (condition condition' : Bool) (counted later : ℕ) (frames frames' : List Frame) (before before' rest rest' : List Marked) (outer : ExpansionOutcome (List Marked))
+      → condition ≡ condition' → counted ≡ later → frames ≡ frames' → before ≡ before' → rest ≡ rest' → ComesAt condition counted frames before rest outer
+      → ComesAt condition' later frames' before' rest' outer
+  comes_moved condition condition' counted later frames frames' before before' rest rest' outer q c f b r comes =
+      subst (λ (k : Bool). ComesAt k later frames' before' rest' outer) q
+      (subst (λ (n : ℕ). ComesAt condition n frames' before' rest' outer) c
+      (subst (λ (x : List Frame). ComesAt condition counted x before' rest' outer) f
+      (subst (λ (d : List Marked). ComesAt condition counted frames d rest' outer) b
+      (subst (λ (l : List Marked). ComesAt condition counted frames before l outer) r comes))))
 
   -- a call whose arguments that wait are the same
   pub waits_moved : (counted : ℕ) (frames : List Frame) (frame : Frame) (waiting : List (List Marked)) (outer : ExpansionOutcome (List Marked)) → waiting ≡ frame.waiting
@@ -95,30 +101,32 @@ module _ (macros : List Macro) (room : ℕ) where
   stopped_resumes [] fault = refl
   stopped_resumes (frame ∷ frames) fault = (stopped fault, refl, stopped_resumes frames fault)
 
-  pub kept_comes : (counted : ℕ) (frames : List Frame) (before : List Marked) (t : Marked) (rest : List Marked) (outer : ExpansionOutcome (List Marked))
-      → IsReading macros t rest kept → ComesAt counted frames (before ++ t ∷ []) rest outer → ComesAt counted frames before (t ∷ rest) outer
-  kept_comes counted frames before t rest outer reads comes =
-      (led_by t comes.0, keeps reads comes.1, subst (λ (o : ExpansionOutcome (List Marked)). Resumes macros room frames o outer) (sym (led_all_more before t comes.0)) comes.2)
+  pub kept_comes : (condition : Bool) (counted : ℕ) (frames : List Frame) (before : List Marked) (t : Marked) (rest : List Marked) (outer : ExpansionOutcome (List Marked))
+      → IsReading macros t rest kept → ComesAt condition counted frames (before ++ t ∷ take (stay_behind condition t rest) rest) (drop (stay_behind condition t rest) rest) outer
+      → ComesAt condition counted frames before (t ∷ rest) outer
+  kept_comes condition counted frames before t rest outer reads comes =
+      let stays = t ∷ take (stay_behind condition t rest) rest in
+      (led_all stays comes.0, keeps reads comes.1, subst (λ (o : ExpansionOutcome (List Marked)). Resumes macros room frames o outer) (sym (led_all_all before stays comes.0)) comes.2)
 
-  pub refused_comes : (counted : ℕ) (frames : List Frame) (before : List Marked) (t : Marked) (rest : List Marked) (kind : MacroKind)
-      → IsReading macros t rest (refused kind) → ComesAt counted frames before (t ∷ rest) (stopped (fault_at kind t))
-  refused_comes counted frames before t rest kind reads =
+  pub refused_comes : (condition : Bool) (counted : ℕ) (frames : List Frame) (before : List Marked) (t : Marked) (rest : List Marked) (kind : MacroKind)
+      → IsReading macros t rest (refused kind) → ComesAt condition counted frames before (t ∷ rest) (stopped (fault_at kind t))
+  refused_comes condition counted frames before t rest kind reads =
       (stopped (fault_at kind t), refuses reads, stopped_resumes frames (fault_at kind t))
 
   pub replaced_comes : (counted : ℕ) (frames : List Frame) (t : Marked) (rest : List Marked) (frame : Frame) (outer : ExpansionOutcome (List Marked))
       → IsReading macros t rest (replaced frame.call frame.waiting frame.rest) → frame.fulls ≡ [] → GoesOn macros room frame counted frames outer
-      → ComesAt counted frames frame.done (t ∷ rest) outer
+      → ComesAt frame.condition counted frames frame.done (t ∷ rest) outer
   replaced_comes counted frames t rest frame outer reads empty goes =
       let fin = goes.1 in (
         fin.rest,
-        replaces reads fin.each (subst (λ (m : ExpansionOutcome (List (List Marked))). Continues macros room frame.call frame.rest m fin.rest) (ap (λ (f : List (List Marked)). led_all f fin.more) empty ∙ led_all_nil fin.more) fin.continues),
+        replaces reads fin.each (subst (λ (m : ExpansionOutcome (List (List Marked))). Continues macros room frame.condition frame.call frame.rest m fin.rest) (ap (λ (f : List (List Marked)). led_all f fin.more) empty ∙ led_all_nil fin.more) fin.continues),
         subst (λ (o : ExpansionOutcome (List Marked)). Resumes macros room frames o outer) fin.whole_is goes.2,
       )
 
-  pub ended_comes : (counted : ℕ) (frames : List Frame) (frame next : Frame) (before : List Marked) (outer : ExpansionOutcome (List Marked))
-      → next.call ≡ frame.call → next.waiting ≡ frame.waiting → next.done ≡ frame.done → next.rest ≡ frame.rest → next.fulls ≡ frame.fulls ++ before ∷ []
-      → GoesOn macros room next counted frames outer → ComesAt counted (frame ∷ frames) before [] outer
-  ended_comes counted frames frame next before outer call waiting front rest fulls goes =
+  pub ended_comes : (condition : Bool) (counted : ℕ) (frames : List Frame) (frame next : Frame) (before : List Marked) (outer : ExpansionOutcome (List Marked))
+      → next.condition ≡ frame.condition → next.call ≡ frame.call → next.waiting ≡ frame.waiting → next.done ≡ frame.done → next.rest ≡ frame.rest → next.fulls ≡ frame.fulls ++ before ∷ []
+      → GoesOn macros room next counted frames outer → ComesAt condition counted (frame ∷ frames) before [] outer
+  ended_comes condition counted frames frame next before outer asks call waiting front rest fulls goes =
       let fin = goes.1 in (
         done [] counted,
         nothing,
@@ -128,22 +136,23 @@ module _ (macros : List Macro) (room : ℕ) where
             more = fin.more;
             rest = fin.rest;
             each = subst (λ (w : List (List Marked)). ExpandsEach macros room counted w fin.more) waiting fin.each;
-            continues = subst (λ (f : List (List Marked)). Continues macros room frame.call frame.rest (led_all f fin.more) fin.rest) (fulls ∙ ap (λ (l : List Marked). frame.fulls ++ l ∷ []) (sym (append-nil before)))
-                (subst (λ (r : List Marked). Continues macros room frame.call r (led_all next.fulls fin.more) fin.rest) rest
-                (subst (λ (k : Call). Continues macros room k next.rest (led_all next.fulls fin.more) fin.rest) call fin.continues));
+            continues = subst (λ (f : List (List Marked)). Continues macros room frame.condition frame.call frame.rest (led_all f fin.more) fin.rest) (fulls ∙ ap (λ (l : List Marked). frame.fulls ++ l ∷ []) (sym (append-nil before)))
+                (subst (λ (r : List Marked). Continues macros room frame.condition frame.call r (led_all next.fulls fin.more) fin.rest) rest
+                (subst (λ (k : Call). Continues macros room frame.condition k next.rest (led_all next.fulls fin.more) fin.rest) call
+                (subst (λ (q : Bool). Continues macros room q next.call next.rest (led_all next.fulls fin.more) fin.rest) asks fin.continues)));
             whole_is = fin.whole_is ∙ ap (λ (d : List Marked). led_all d fin.rest) front;
           },
           goes.2,
         ),
       )
 
-  pub finished_comes : (counted : ℕ) (before : List Marked) → ComesAt counted [] before [] (done before counted)
-  finished_comes counted before = (done [] counted, nothing, ap (λ l. done l counted) (sym (append-nil before)))
+  pub finished_comes : (condition : Bool) (counted : ℕ) (before : List Marked) → ComesAt condition counted [] before [] (done before counted)
+  finished_comes condition counted before = (done [] counted, nothing, ap (λ l. done l counted) (sym (append-nil before)))
 
   argument_finishes : (counted : ℕ) (frame next : Frame) (argument : List Marked) (inner whole : ExpansionOutcome (List Marked))
-      → next.call ≡ frame.call → frame.waiting ≡ argument ∷ next.waiting → next.done ≡ frame.done → next.rest ≡ frame.rest → next.fulls ≡ frame.fulls
-      → Expands macros room counted argument inner → ResumesOne macros room next (led_all [] inner) whole → Finishes macros room frame frame.fulls counted whole
-  argument_finishes counted frame next argument (stopped fault) whole call waiting front rest fulls expands one =
+      → next.condition ≡ frame.condition → next.call ≡ frame.call → frame.waiting ≡ argument ∷ next.waiting → next.done ≡ frame.done → next.rest ≡ frame.rest → next.fulls ≡ frame.fulls
+      → Expands macros room false counted argument inner → ResumesOne macros room next (led_all [] inner) whole → Finishes macros room frame frame.fulls counted whole
+  argument_finishes counted frame next argument (stopped fault) whole asks call waiting front rest fulls expands one =
       record {
         more = stopped fault;
         rest = stopped fault;
@@ -151,37 +160,38 @@ module _ (macros : List Macro) (room : ℕ) where
         continues = stops;
         whole_is = one;
       }
-  argument_finishes counted frame next argument (done tokens later) whole call waiting front rest fulls expands one =
+  argument_finishes counted frame next argument (done tokens later) whole asks call waiting front rest fulls expands one =
       record {
         more = led_by tokens one.more;
         rest = one.rest;
         each = subst (λ (w : List (List Marked)). ExpandsEach macros room counted w (led_by tokens one.more)) (sym waiting) (each expands one.each);
-        continues = subst (λ (m : ExpansionOutcome (List (List Marked))). Continues macros room frame.call frame.rest m one.rest) (sym (led_all_more frame.fulls tokens one.more))
-            (subst (λ (f : List (List Marked)). Continues macros room frame.call frame.rest (led_all (f ++ tokens ∷ []) one.more) one.rest) fulls
-            (subst (λ (r : List Marked). Continues macros room frame.call r (led_all (next.fulls ++ tokens ∷ []) one.more) one.rest) rest
-            (subst (λ (k : Call). Continues macros room k next.rest (led_all (next.fulls ++ tokens ∷ []) one.more) one.rest) call one.continues)));
+        continues = subst (λ (m : ExpansionOutcome (List (List Marked))). Continues macros room frame.condition frame.call frame.rest m one.rest) (sym (led_all_more frame.fulls tokens one.more))
+            (subst (λ (f : List (List Marked)). Continues macros room frame.condition frame.call frame.rest (led_all (f ++ tokens ∷ []) one.more) one.rest) fulls
+            (subst (λ (r : List Marked). Continues macros room frame.condition frame.call r (led_all (next.fulls ++ tokens ∷ []) one.more) one.rest) rest
+            (subst (λ (k : Call). Continues macros room frame.condition k next.rest (led_all (next.fulls ++ tokens ∷ []) one.more) one.rest) call
+            (subst (λ (q : Bool). Continues macros room q next.call next.rest (led_all (next.fulls ++ tokens ∷ []) one.more) one.rest) asks one.continues))));
         whole_is = one.whole_is ∙ ap (λ (d : List Marked). led_all d one.rest) front;
       }
 
   pub argument_goes : (counted : ℕ) (frames : List Frame) (frame next : Frame) (argument : List Marked) (outer : ExpansionOutcome (List Marked))
-      → next.call ≡ frame.call → frame.waiting ≡ argument ∷ next.waiting → next.done ≡ frame.done → next.rest ≡ frame.rest → next.fulls ≡ frame.fulls
-      → ComesAt counted (next ∷ frames) [] argument outer → GoesOn macros room frame counted frames outer
-  argument_goes counted frames frame next argument outer call waiting front rest fulls comes =
-      (comes.2.0, argument_finishes counted frame next argument comes.0 comes.2.0 call waiting front rest fulls comes.1 comes.2.1, comes.2.2)
+      → next.condition ≡ frame.condition → next.call ≡ frame.call → frame.waiting ≡ argument ∷ next.waiting → next.done ≡ frame.done → next.rest ≡ frame.rest → next.fulls ≡ frame.fulls
+      → ComesAt false counted (next ∷ frames) [] argument outer → GoesOn macros room frame counted frames outer
+  argument_goes counted frames frame next argument outer asks call waiting front rest fulls comes =
+      (comes.2.0, argument_finishes counted frame next argument comes.0 comes.2.0 asks call waiting front rest fulls comes.1 comes.2.1, comes.2.2)
 
-  continued : (counted : ℕ) (frame : Frame) (rest : ExpansionOutcome (List Marked)) → frame.waiting ≡ [] → Continues macros room frame.call frame.rest (done frame.fulls counted) rest
+  continued : (counted : ℕ) (frame : Frame) (rest : ExpansionOutcome (List Marked)) → frame.waiting ≡ [] → Continues macros room frame.condition frame.call frame.rest (done frame.fulls counted) rest
       → Finishes macros room frame frame.fulls counted (led_all frame.done rest)
   continued counted frame rest waiting goes =
       record {
         more = done [] counted;
         rest = rest;
         each = subst (λ (w : List (List Marked)). ExpandsEach macros room counted w (done [] counted)) (sym waiting) none;
-        continues = subst (λ (f : List (List Marked)). Continues macros room frame.call frame.rest (done f counted) rest) (sym (append-nil frame.fulls)) goes;
+        continues = subst (λ (f : List (List Marked)). Continues macros room frame.condition frame.call frame.rest (done f counted) rest) (sym (append-nil frame.fulls)) goes;
         whole_is = refl;
       }
 
   pub put_goes : (counted : ℕ) (frames : List Frame) (frame : Frame) (put : List Marked) (outer : ExpansionOutcome (List Marked)) → frame.waiting ≡ []
-      → IsReplacement frame.call frame.fulls put → counted + length put ≤ room → ComesAt (counted + length put) frames frame.done (put ++ frame.rest) outer
+      → IsReplacement frame.call frame.fulls put → counted + length put ≤ room → ComesAt frame.condition (counted + length put) frames frame.done (put ++ frame.rest) outer
       → GoesOn macros room frame counted frames outer
   put_goes counted frames frame put outer waiting is fits comes =
       (led_all frame.done comes.0, continued counted frame comes.0 waiting (again is fits comes.1), comes.2)
@@ -197,15 +207,12 @@ module _ (macros : List Macro) (room : ℕ) where
       (stopped (fault_at TooLong frame.call.name), continued counted frame (stopped (fault_at TooLong frame.call.name)) waiting (passes is over), stopped_resumes frames (fault_at TooLong frame.call.name))
 
   -- at the beginning no call is open and nothing is done
-  pub whole : (state : Expander) (tokens : List Marked) (outer : ExpansionOutcome (List Marked)) → state.counted ≡ 0 → state.calls ≡ [] → state.done ≡ [] → state.rest ≡ tokens
-      → Comes macros room state outer → Expands macros room 0 tokens outer
-  whole state tokens outer counted calls before rest comes =
-      let start : ComesAt 0 [] [] tokens outer =
-      subst (λ (n : ℕ). ComesAt n [] [] tokens outer) counted
-      (subst (λ (f : List Frame). ComesAt state.counted f [] tokens outer) calls
-      (subst (λ (d : List Marked). ComesAt state.counted state.calls d tokens outer) before
-      (subst (λ (r : List Marked). ComesAt state.counted state.calls state.done r outer) rest comes))) in
-      subst (λ (o : ExpansionOutcome (List Marked)). Expands macros room 0 tokens o) (sym (start.2 ∙ led_all_nil start.0)) start.1
+  pub whole : (state : Expander) (condition : Bool) (tokens : List Marked) (outer : ExpansionOutcome (List Marked)) → state.condition ≡ condition → state.counted ≡ 0 → state.calls ≡ [] → state.done ≡ [] → state.rest ≡ tokens
+      → Comes macros room state outer → Expands macros room condition 0 tokens outer
+  whole state condition tokens outer asks counted calls before rest comes =
+      let start : ComesAt condition 0 [] [] tokens outer =
+      comes_moved state.condition condition state.counted 0 state.calls [] state.done [] state.rest tokens outer asks counted calls before rest comes in
+      subst (λ (o : ExpansionOutcome (List Marked)). Expands macros room condition 0 tokens o) (sym (start.2 ∙ led_all_nil start.0)) start.1
 
 -- ---- the weights
 

@@ -1,5 +1,5 @@
 -- A list has one expansion or one first refusal.
-use Rattle.std.proofs.Common.{◌≡◌, ℕ, ◌+◌, ◌<◌, ◌≤◌, Bool, true, List, [], ◌∷◌, ◌++◌, length, refl, sym, ap, ◌∙◌, subst, arith, ◌⊎◌, inl, inr}
+use Rattle.std.proofs.Common.{◌≡◌, ℕ, ◌+◌, ◌<◌, ◌≤◌, Bool, true, false, take, drop, List, [], ◌∷◌, ◌++◌, length, refl, sym, ap, ◌∙◌, subst, arith, ◌⊎◌, inl, inr}
 use Rattle.std.specs.Prelude.{Option}
 use Rattle.std.proofs.lemmas.Bool.{false≢true}
 use Rattle.ct_macro.specs.declared.faults.MacroFault.{MacroFault}
@@ -10,7 +10,7 @@ use Rattle.ct_macro_call.specs.declared.marked.Marked.{Marked}
 use Rattle.ct_macro_call.specs.declared.call.Call.{Call}
 use Rattle.ct_macro_call.specs.Calls.{IsCall, AreArguments, closes_call, separates, NoneAtLevel, IsLevel, fewer, arguments_for}
 use Rattle.ct_macro_call.specs.Substitution.{IsReplacement}
-use Rattle.ct_macro.specs.Expansion.{Use, stays, object, opened, use_of, Reading, kept, refused, replaced, reading_of_call, ReadsCall, ReadsUse, IsReading, ExpansionOutcome, done, stopped, fault_at, led_by, Expands, nothing, keeps, refuses, replaces, ExpandsEach, none, each, ends, Continues, stops, unpasted, passes, again}
+use Rattle.ct_macro.specs.Expansion.{Use, stays, object, opened, use_of, Reading, kept, refused, replaced, reading_of_call, ReadsCall, ReadsUse, IsReading, ExpansionOutcome, done, stopped, fault_at, led_by, led_all, stay_behind, Expands, nothing, keeps, refuses, replaces, ExpandsEach, none, each, ends, Continues, stops, unpasted, passes, again}
 
 -- a call puts one list at most
 abbrev pub OneReplacement : Type 0
@@ -87,34 +87,35 @@ reading_one macros first rest a b one other = use_one first rest (use_of macros 
 -- ---- the rule that gave an outcome
 
 module _ (macros : List Macro) (room : ℕ) where
-  by_nothing : (counted : ℕ) (b : ExpansionOutcome (List Marked)) → Expands macros room counted [] b → b ≡ done [] counted
-  by_nothing counted b nothing = refl
+  by_nothing : (condition : Bool) (counted : ℕ) (b : ExpansionOutcome (List Marked)) → Expands macros room condition counted [] b → b ≡ done [] counted
+  by_nothing condition counted b nothing = refl
 
-  by_keeping : (counted : ℕ) (first : Marked) (rest : List Marked) (b : ExpansionOutcome (List Marked)) → IsReading macros first rest kept → Expands macros room counted (first ∷ rest) b
-      → (o : ExpansionOutcome (List Marked)) × Expands macros room counted rest o × (b ≡ led_by first o)
-  by_keeping counted first rest b reads (keeps {outcome = o} r e) = (o, e, refl)
-  by_keeping counted first rest b reads (refuses {kind = k} r) = absurd (let bad = reading_one macros first rest kept (refused k) reads r in cc)
-  by_keeping counted first rest b reads (replaces {call = c} {arguments = a} {after = t} r e s) = absurd (let bad = reading_one macros first rest kept (replaced c a t) reads r in cc)
+  by_keeping : (condition : Bool) (counted : ℕ) (first : Marked) (rest : List Marked) (b : ExpansionOutcome (List Marked)) → IsReading macros first rest kept → Expands macros room condition counted (first ∷ rest) b
+      → (o : ExpansionOutcome (List Marked)) × Expands macros room condition counted (drop (stay_behind condition first rest) rest) o
+      × (b ≡ led_all (first ∷ take (stay_behind condition first rest) rest) o)
+  by_keeping condition counted first rest b reads (keeps {outcome = o} r e) = (o, e, refl)
+  by_keeping condition counted first rest b reads (refuses {kind = k} r) = absurd (let bad = reading_one macros first rest kept (refused k) reads r in cc)
+  by_keeping condition counted first rest b reads (replaces {call = c} {arguments = a} {after = t} r e s) = absurd (let bad = reading_one macros first rest kept (replaced c a t) reads r in cc)
 
-  by_refusing : (counted : ℕ) (first : Marked) (rest : List Marked) (kind : MacroKind) (b : ExpansionOutcome (List Marked)) → IsReading macros first rest (refused kind) → Expands macros room counted (first ∷ rest) b
+  by_refusing : (condition : Bool) (counted : ℕ) (first : Marked) (rest : List Marked) (kind : MacroKind) (b : ExpansionOutcome (List Marked)) → IsReading macros first rest (refused kind) → Expands macros room condition counted (first ∷ rest) b
       → b ≡ stopped (fault_at kind first)
-  by_refusing counted first rest kind b reads (keeps r e) = absurd (let bad = reading_one macros first rest (refused kind) kept reads r in cc)
-  by_refusing counted first rest kind b reads (refuses {kind = k} r) =
+  by_refusing condition counted first rest kind b reads (keeps r e) = absurd (let bad = reading_one macros first rest (refused kind) kept reads r in cc)
+  by_refusing condition counted first rest kind b reads (refuses {kind = k} r) =
       let same : refused k ≡ refused kind = reading_one macros first rest (refused k) (refused kind) r reads in
       let kinds : k ≡ kind = cc in ap (λ q. stopped (fault_at q first)) kinds
-  by_refusing counted first rest kind b reads (replaces {call = c} {arguments = a} {after = t} r e s) = absurd (let bad = reading_one macros first rest (refused kind) (replaced c a t) reads r in cc)
+  by_refusing condition counted first rest kind b reads (replaces {call = c} {arguments = a} {after = t} r e s) = absurd (let bad = reading_one macros first rest (refused kind) (replaced c a t) reads r in cc)
 
-  by_replacing : (counted : ℕ) (first : Marked) (rest : List Marked) (call : Call) (arguments : List (List Marked)) (after : List Marked) (b : ExpansionOutcome (List Marked))
-      → IsReading macros first rest (replaced call arguments after) → Expands macros room counted (first ∷ rest) b
-      → (fulls : ExpansionOutcome (List (List Marked))) × ExpandsEach macros room counted arguments fulls × Continues macros room call after fulls b
-  by_replacing counted first rest call arguments after b reads (keeps r e) = absurd (let bad = reading_one macros first rest (replaced call arguments after) kept reads r in cc)
-  by_replacing counted first rest call arguments after b reads (refuses {kind = k} r) = absurd (let bad = reading_one macros first rest (replaced call arguments after) (refused k) reads r in cc)
-  by_replacing counted first rest call arguments after b reads (replaces {call = c} {arguments = a} {after = t} {fulls = f} r e s) =
+  by_replacing : (condition : Bool) (counted : ℕ) (first : Marked) (rest : List Marked) (call : Call) (arguments : List (List Marked)) (after : List Marked) (b : ExpansionOutcome (List Marked))
+      → IsReading macros first rest (replaced call arguments after) → Expands macros room condition counted (first ∷ rest) b
+      → (fulls : ExpansionOutcome (List (List Marked))) × ExpandsEach macros room counted arguments fulls × Continues macros room condition call after fulls b
+  by_replacing condition counted first rest call arguments after b reads (keeps r e) = absurd (let bad = reading_one macros first rest (replaced call arguments after) kept reads r in cc)
+  by_replacing condition counted first rest call arguments after b reads (refuses {kind = k} r) = absurd (let bad = reading_one macros first rest (replaced call arguments after) (refused k) reads r in cc)
+  by_replacing condition counted first rest call arguments after b reads (replaces {call = c} {arguments = a} {after = t} {fulls = f} r e s) =
       let same : replaced c a t ≡ replaced call arguments after = reading_one macros first rest (replaced c a t) (replaced call arguments after) r reads in
       let calls : c ≡ call = cc in
       let lists : a ≡ arguments = cc in
       let tails : t ≡ after = cc in
-      (f, subst (λ (l : List (List Marked)). ExpandsEach macros room counted l f) lists e, subst (λ (k : Call). Continues macros room k after f b) calls (subst (λ (l : List Marked). Continues macros room c l f b) tails s))
+      (f, subst (λ (l : List (List Marked)). ExpandsEach macros room counted l f) lists e, subst (λ (k : Call). Continues macros room condition k after f b) calls (subst (λ (l : List Marked). Continues macros room condition c l f b) tails s))
 
   -- from what the first list becomes
   abbrev EachBehind : ExpansionOutcome (List Marked) → List (List Marked) → ExpansionOutcome (List (List Marked)) → Type 0
@@ -122,59 +123,59 @@ module _ (macros : List Macro) (room : ℕ) where
   EachBehind (stopped fault) rest b = b ≡ stopped fault
 
   by_each : (counted : ℕ) (first : List Marked) (rest : List (List Marked)) (b : ExpansionOutcome (List (List Marked))) → ExpandsEach macros room counted (first ∷ rest) b
-      → (o : ExpansionOutcome (List Marked)) × Expands macros room counted first o × EachBehind o rest b
+      → (o : ExpansionOutcome (List Marked)) × Expands macros room false counted first o × EachBehind o rest b
   by_each counted first rest b (each {later = n} {tokens = ts} {outcome = m} e es) = (done ts n, e, (m, es, refl))
   by_each counted first rest b (ends {fault = f} e) = (stopped f, e, refl)
 
   by_none : (counted : ℕ) (b : ExpansionOutcome (List (List Marked))) → ExpandsEach macros room counted [] b → b ≡ done [] counted
   by_none counted b none = refl
 
-  by_stopping : (call : Call) (after : List Marked) (fault : MacroFault) (b : ExpansionOutcome (List Marked)) → Continues macros room call after (stopped fault) b → b ≡ stopped fault
-  by_stopping call after fault b stops = refl
+  by_stopping : (condition : Bool) (call : Call) (after : List Marked) (fault : MacroFault) (b : ExpansionOutcome (List Marked)) → Continues macros room condition call after (stopped fault) b → b ≡ stopped fault
+  by_stopping condition call after fault b stops = refl
 
   -- what a call comes to
-  data Comes (call : Call) (after : List Marked) (fulls : List (List Marked)) (counted : ℕ) (b : ExpansionOutcome (List Marked)) : Type 0 where
-    no_put : ((put : List Marked) → IsReplacement call fulls put → ⊥) → b ≡ stopped (fault_at BadPaste call.name) → Comes call after fulls counted b
-    over : (put : List Marked) → IsReplacement call fulls put → room < counted + length put → b ≡ stopped (fault_at TooLong call.name) → Comes call after fulls counted b
-    on : (put : List Marked) → IsReplacement call fulls put → counted + length put ≤ room → Expands macros room (counted + length put) (put ++ after) b → Comes call after fulls counted b
+  data Comes (condition : Bool) (call : Call) (after : List Marked) (fulls : List (List Marked)) (counted : ℕ) (b : ExpansionOutcome (List Marked)) : Type 0 where
+    no_put : ((put : List Marked) → IsReplacement call fulls put → ⊥) → b ≡ stopped (fault_at BadPaste call.name) → Comes condition call after fulls counted b
+    over : (put : List Marked) → IsReplacement call fulls put → room < counted + length put → b ≡ stopped (fault_at TooLong call.name) → Comes condition call after fulls counted b
+    on : (put : List Marked) → IsReplacement call fulls put → counted + length put ≤ room → Expands macros room condition (counted + length put) (put ++ after) b → Comes condition call after fulls counted b
 
-  by_continuing : (call : Call) (after : List Marked) (fulls : List (List Marked)) (counted : ℕ) (b : ExpansionOutcome (List Marked)) → Continues macros room call after (done fulls counted) b → Comes call after fulls counted b
-  by_continuing call after fulls counted b (unpasted n) = no_put n refl
-  by_continuing call after fulls counted b (passes {put = p} i o) = over p i o refl
-  by_continuing call after fulls counted b (again {put = p} i f e) = on p i f e
+  by_continuing : (condition : Bool) (call : Call) (after : List Marked) (fulls : List (List Marked)) (counted : ℕ) (b : ExpansionOutcome (List Marked)) → Continues macros room condition call after (done fulls counted) b → Comes condition call after fulls counted b
+  by_continuing condition call after fulls counted b (unpasted n) = no_put n refl
+  by_continuing condition call after fulls counted b (passes {put = p} i o) = over p i o refl
+  by_continuing condition call after fulls counted b (again {put = p} i f e) = on p i f e
 
   -- ---- one outcome
 
   module _ (law : OneReplacement) where
-    no_put_one : (call : Call) (after : List Marked) (fulls : List (List Marked)) (counted : ℕ) (b : ExpansionOutcome (List Marked)) → ((put : List Marked) → IsReplacement call fulls put → ⊥)
-        → Comes call after fulls counted b → stopped (fault_at BadPaste call.name) ≡ b
-    no_put_one call after fulls counted b n (no_put m e) = sym e
-    no_put_one call after fulls counted b n (over p i o e) = absurd (n p i)
-    no_put_one call after fulls counted b n (on p i f e) = absurd (n p i)
+    no_put_one : (condition : Bool) (call : Call) (after : List Marked) (fulls : List (List Marked)) (counted : ℕ) (b : ExpansionOutcome (List Marked)) → ((put : List Marked) → IsReplacement call fulls put → ⊥)
+        → Comes condition call after fulls counted b → stopped (fault_at BadPaste call.name) ≡ b
+    no_put_one condition call after fulls counted b n (no_put m e) = sym e
+    no_put_one condition call after fulls counted b n (over p i o e) = absurd (n p i)
+    no_put_one condition call after fulls counted b n (on p i f e) = absurd (n p i)
 
-    over_one : (call : Call) (after : List Marked) (fulls : List (List Marked)) (counted : ℕ) (b : ExpansionOutcome (List Marked)) (put : List Marked) → IsReplacement call fulls put → room < counted + length put
-        → Comes call after fulls counted b → stopped (fault_at TooLong call.name) ≡ b
-    over_one call after fulls counted b put is far (no_put m e) = absurd (m put is)
-    over_one call after fulls counted b put is far (over p i o e) = sym e
-    over_one call after fulls counted b put is far (on p i f e) = absurd (omega (arith, ap length (law call fulls put p is i)))
+    over_one : (condition : Bool) (call : Call) (after : List Marked) (fulls : List (List Marked)) (counted : ℕ) (b : ExpansionOutcome (List Marked)) (put : List Marked) → IsReplacement call fulls put → room < counted + length put
+        → Comes condition call after fulls counted b → stopped (fault_at TooLong call.name) ≡ b
+    over_one condition call after fulls counted b put is far (no_put m e) = absurd (m put is)
+    over_one condition call after fulls counted b put is far (over p i o e) = sym e
+    over_one condition call after fulls counted b put is far (on p i f e) = absurd (omega (arith, ap length (law call fulls put p is i)))
 
-    on_expands : (call : Call) (after : List Marked) (fulls : List (List Marked)) (counted : ℕ) (b : ExpansionOutcome (List Marked)) (put : List Marked) → IsReplacement call fulls put → counted + length put ≤ room
-        → Comes call after fulls counted b → Expands macros room (counted + length put) (put ++ after) b
-    on_expands call after fulls counted b put is fits (no_put m e) = absurd (m put is)
-    on_expands call after fulls counted b put is fits (over p i o e) = absurd (omega (arith, ap length (law call fulls put p is i)))
-    on_expands call after fulls counted b put is fits (on p i f e) =
-        subst (λ (q : List Marked). Expands macros room (counted + length q) (q ++ after) b) (law call fulls p put i is) e
+    on_expands : (condition : Bool) (call : Call) (after : List Marked) (fulls : List (List Marked)) (counted : ℕ) (b : ExpansionOutcome (List Marked)) (put : List Marked) → IsReplacement call fulls put → counted + length put ≤ room
+        → Comes condition call after fulls counted b → Expands macros room condition (counted + length put) (put ++ after) b
+    on_expands condition call after fulls counted b put is fits (no_put m e) = absurd (m put is)
+    on_expands condition call after fulls counted b put is fits (over p i o e) = absurd (omega (arith, ap length (law call fulls put p is i)))
+    on_expands condition call after fulls counted b put is fits (on p i f e) =
+        subst (λ (q : List Marked). Expands macros room condition (counted + length q) (q ++ after) b) (law call fulls p put i is) e
 
     mutual
-      pub expands_one : {counted : ℕ} {tokens : List Marked} {a : ExpansionOutcome (List Marked)} → Expands macros room counted tokens a → (b : ExpansionOutcome (List Marked)) → Expands macros room counted tokens b → a ≡ b
-      expands_one (nothing {counted}) b other = sym (by_nothing counted b other)
-      expands_one (keeps {counted} {first} {rest} {outcome} r e) b other =
-          let found = by_keeping counted first rest b r other in
-          ap (λ o. led_by first o) (expands_one e found.0 found.1) ∙ sym found.2
-      expands_one (refuses {counted} {first} {rest} {kind} r) b other = sym (by_refusing counted first rest kind b r other)
-      expands_one (replaces {counted} {first} {rest} {call} {arguments} {after} {fulls} r e s) b other =
-          let found = by_replacing counted first rest call arguments after b r other in
-          continues_one s b (subst (λ (f : ExpansionOutcome (List (List Marked))). Continues macros room call after f b) (sym (each_one e found.0 found.1)) found.2)
+      pub expands_one : {condition : Bool} {counted : ℕ} {tokens : List Marked} {a : ExpansionOutcome (List Marked)} → Expands macros room condition counted tokens a → (b : ExpansionOutcome (List Marked)) → Expands macros room condition counted tokens b → a ≡ b
+      expands_one (nothing {condition} {counted}) b other = sym (by_nothing condition counted b other)
+      expands_one (keeps {condition} {counted} {first} {rest} {outcome} r e) b other =
+          let found = by_keeping condition counted first rest b r other in
+          ap (λ o. led_all (first ∷ take (stay_behind condition first rest) rest) o) (expands_one e found.0 found.1) ∙ sym found.2
+      expands_one (refuses {condition} {counted} {first} {rest} {kind} r) b other = sym (by_refusing condition counted first rest kind b r other)
+      expands_one (replaces {condition} {counted} {first} {rest} {call} {arguments} {after} {fulls} r e s) b other =
+          let found = by_replacing condition counted first rest call arguments after b r other in
+          continues_one s b (subst (λ (f : ExpansionOutcome (List (List Marked))). Continues macros room condition call after f b) (sym (each_one e found.0 found.1)) found.2)
 
       each_one : {counted : ℕ} {lists : List (List Marked)} {a : ExpansionOutcome (List (List Marked))} → ExpandsEach macros room counted lists a → (b : ExpansionOutcome (List (List Marked))) → ExpandsEach macros room counted lists b → a ≡ b
       each_one (none {counted}) b other = sym (by_none counted b other)
@@ -187,9 +188,9 @@ module _ (macros : List Macro) (room : ℕ) where
           let behind : EachBehind (stopped fault) rest b = subst (λ (o : ExpansionOutcome (List Marked)). EachBehind o rest b) (sym (expands_one e found.0 found.1)) found.2 in
           sym behind
 
-      continues_one : {call : Call} {after : List Marked} {fulls : ExpansionOutcome (List (List Marked))} {a : ExpansionOutcome (List Marked)} → Continues macros room call after fulls a → (b : ExpansionOutcome (List Marked)) → Continues macros room call after fulls b → a ≡ b
-      continues_one (stops {call} {after} {fault}) b other = sym (by_stopping call after fault b other)
-      continues_one (unpasted {call} {after} {fulls} {counted} n) b other = no_put_one call after fulls counted b n (by_continuing call after fulls counted b other)
-      continues_one (passes {call} {after} {fulls} {counted} {put} is far) b other = over_one call after fulls counted b put is far (by_continuing call after fulls counted b other)
-      continues_one (again {call} {after} {fulls} {counted} {put} {outcome} is fits e) b other =
-          expands_one e b (on_expands call after fulls counted b put is fits (by_continuing call after fulls counted b other))
+      continues_one : {condition : Bool} {call : Call} {after : List Marked} {fulls : ExpansionOutcome (List (List Marked))} {a : ExpansionOutcome (List Marked)} → Continues macros room condition call after fulls a → (b : ExpansionOutcome (List Marked)) → Continues macros room condition call after fulls b → a ≡ b
+      continues_one (stops {condition} {call} {after} {fault}) b other = sym (by_stopping condition call after fault b other)
+      continues_one (unpasted {condition} {call} {after} {fulls} {counted} n) b other = no_put_one condition call after fulls counted b n (by_continuing condition call after fulls counted b other)
+      continues_one (passes {condition} {call} {after} {fulls} {counted} {put} is far) b other = over_one condition call after fulls counted b put is far (by_continuing condition call after fulls counted b other)
+      continues_one (again {condition} {call} {after} {fulls} {counted} {put} {outcome} is fits e) b other =
+          expands_one e b (on_expands condition call after fulls counted b put is fits (by_continuing condition call after fulls counted b other))

@@ -1,5 +1,5 @@
 -- An expansion ends: what is still to be read grows lighter with each step.
-use Rattle.std.proofs.Common.{◌≡◌, ℕ, ◌+◌, ◌≤◌, Bool, true, false, List, [], ◌∷◌, ◌++◌, length, refl, ap, ◌∙◌, subst, arith, inl, inr, length-append}
+use Rattle.std.proofs.Common.{◌≡◌, ℕ, suc, zero, ◌+◌, ◌≤◌, Bool, true, false, drop, List, [], ◌∷◌, ◌++◌, length, refl, ap, ◌∙◌, subst, arith, inl, inr, length-append}
 use Rattle.std.specs.Prelude.{Option, Some, None, nat_eq, if◌then◌else◌}
 use Rattle.ct_macro_call.specs.declared.definition.Macro.{Macro}
 use Rattle.ct_macro_call.specs.declared.marked.Marked.{Marked}
@@ -10,6 +10,12 @@ use Rattle.ct_macro_call.specs.Sets.{is_in}
 use Rattle.ct_macro_call.specs.Substitution.{selected, full_arguments, names_in, operands_of, is_full}
 use Rattle.ct_macro.specs.Expansion.{Use, stays, object, opened, use_of, use_of_found, use_of_macro, use_of_function, macro_of, replaced, reading_of_call, ReadsUse, IsReading}
 use Rattle.ct_macro.specs.Machine.{weight_each}
+
+-- what is left behind some items is no longer
+pub drop_shorter : {A : Type 0} (count : ℕ) (xs : List A) → length (drop count xs) ≤ length xs
+drop_shorter zero xs = omega arith
+drop_shorter (suc count) [] = omega arith
+drop_shorter (suc count) (x ∷ xs) = omega (arith, drop_shorter count xs)
 
 arguments_weight : (most : Option ℕ) (inside : List Marked) (arguments : List (List Marked)) → AreArguments most inside arguments → weight_each arguments ≡ length inside + 1
 arguments_weight most inside [] are = absurd are

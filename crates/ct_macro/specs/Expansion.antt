@@ -1,6 +1,6 @@
 -- The expansion of a list of tokens (C11 6.10.3, 6.10.3.4). Each token carries the macros that may not expand it: where
 -- the standard leaves open whether a name is replaced again, this set decides.
-use Rattle.std.specs.Prelude.{◌≡◌, ℕ, ◌+◌, ◌<◌, ◌≤◌, ◌⊎◌, Bool, true, false, List, [], ◌∷◌, ◌++◌, length, Option, Some, None, map, if◌then◌else◌}
+use Rattle.std.specs.Prelude.{◌≡◌, ℕ, ◌+◌, ◌<◌, ◌≤◌, ◌⊎◌, ◌&&◌, Bool, true, false, List, [], ◌∷◌, ◌++◌, length, take, drop, Option, Some, None, map, if◌then◌else◌}
 use Rattle.std.specs.Str.{bytes_eq}
 use Rattle.std.specs.Fmt.{decimal}
 use Rattle.ct_base.specs.declared.lexical.Token.{Token}
@@ -11,7 +11,7 @@ use Rattle.ct_macro.specs.declared.faults.MacroFault.{MacroFault}
 use Rattle.ct_macro.specs.declared.faults.MacroKind.{MacroKind}
 use Rattle.ct_macro.specs.declared.faults.MacroKind.TheVariants.{Arguments, OpenCall, BadPaste, TooLong}
 use Rattle.ct_macro_call.specs.declared.marked.Marked.{Marked}
-use Rattle.ct_macro_call.specs.Words.{is_open, line_name}
+use Rattle.ct_macro_call.specs.Words.{is_open, is_name, is_operator, line_name}
 use Rattle.ct_macro_call.specs.Definition.{is_named}
 use Rattle.ct_macro_call.specs.Calls.{IsCall, IsOpenCall, AreArguments, separators, arguments_for}
 use Rattle.ct_macro_call.specs.Sets.{is_in, common}
@@ -92,6 +92,22 @@ ReadsUse first rest (opened place definition names behind) reading =
 abbrev pub IsReading : List Macro → Marked → List Marked → Reading → Type 0
 IsReading macros first rest reading = ReadsUse first rest (use_of macros first rest) reading
 
+-- ---- what `defined` keeps
+
+abbrev pub begins_with_name : List Marked → Bool
+begins_with_name [] = false
+begins_with_name (first ∷ rest) = is_name first.token
+
+-- How many tokens stay as they stand behind a `defined` in a condition: a name, or a name behind `(`, with the token
+-- behind it (6.10.1p1, p4).
+abbrev pub modified : List Marked → ℕ
+modified [] = 0
+modified (first ∷ rest) = if is_name first.token then 1 else (if is_open first.token && begins_with_name rest then 3 else 0)
+
+-- how many tokens stay behind a token that stays, in a condition or not
+abbrev pub stay_behind : Bool → Marked → List Marked → ℕ
+stay_behind condition first rest = if condition && is_operator first.token then modified rest else 0
+
 -- ---- the whole list
 
 -- the tokens, or lists of them, with the number of tokens put so far; or the first refusal
@@ -106,41 +122,48 @@ abbrev pub led_by : {A : Type 0} → A → ExpansionOutcome (List A) → Expansi
 led_by first (done rest counted) = done (first ∷ rest) counted
 led_by first (stopped fault) = stopped fault
 
+-- tokens before those of an outcome
+abbrev pub led_all : {A : Type 0} → List A → ExpansionOutcome (List A) → ExpansionOutcome (List A)
+led_all before (done rest counted) = done (before ++ rest) counted
+led_all before (stopped fault) = stopped fault
+
 module _ (macros : List Macro) (room : ℕ) where
   mutual
-    -- what a list becomes, where so many tokens were put before
-    pub data Expands : ℕ → List Marked → ExpansionOutcome (List Marked) → Type 0 where
-      nothing : {counted : ℕ} → Expands counted [] (done [] counted)
-      keeps : {counted : ℕ} {first : Marked} {rest : List Marked} {outcome : ExpansionOutcome (List Marked)} → IsReading macros first rest kept
-          → Expands counted rest outcome → Expands counted (first ∷ rest) (led_by first outcome)
-      refuses : {counted : ℕ} {first : Marked} {rest : List Marked} {kind : MacroKind} → IsReading macros first rest (refused kind)
-          → Expands counted (first ∷ rest) (stopped (fault_at kind first))
-      replaces : {counted : ℕ} {first : Marked} {rest : List Marked} {call : Call} {arguments : List (List Marked)} {after : List Marked} {fulls : ExpansionOutcome (List (List Marked))} {outcome : ExpansionOutcome (List Marked)}
+    -- What a list becomes, where so many tokens were put before. In the list of a condition, what a `defined` modifies
+    -- stays, also where a macro made the `defined`; an argument of a call in it is expanded as any text.
+    pub data Expands : Bool → ℕ → List Marked → ExpansionOutcome (List Marked) → Type 0 where
+      nothing : {condition : Bool} {counted : ℕ} → Expands condition counted [] (done [] counted)
+      keeps : {condition : Bool} {counted : ℕ} {first : Marked} {rest : List Marked} {outcome : ExpansionOutcome (List Marked)} → IsReading macros first rest kept
+          → Expands condition counted (drop (stay_behind condition first rest) rest) outcome
+          → Expands condition counted (first ∷ rest) (led_all (first ∷ take (stay_behind condition first rest) rest) outcome)
+      refuses : {condition : Bool} {counted : ℕ} {first : Marked} {rest : List Marked} {kind : MacroKind} → IsReading macros first rest (refused kind)
+          → Expands condition counted (first ∷ rest) (stopped (fault_at kind first))
+      replaces : {condition : Bool} {counted : ℕ} {first : Marked} {rest : List Marked} {call : Call} {arguments : List (List Marked)} {after : List Marked} {fulls : ExpansionOutcome (List (List Marked))} {outcome : ExpansionOutcome (List Marked)}
           → IsReading macros first rest (replaced call arguments after) → ExpandsEach counted arguments fulls
-          → Continues call after fulls outcome → Expands counted (first ∷ rest) outcome
+          → Continues condition call after fulls outcome → Expands condition counted (first ∷ rest) outcome
 
     -- what each of some lists becomes, one after another
     pub data ExpandsEach : ℕ → List (List Marked) → ExpansionOutcome (List (List Marked)) → Type 0 where
       none : {counted : ℕ} → ExpandsEach counted [] (done [] counted)
       each : {counted later : ℕ} {first tokens : List Marked} {rest : List (List Marked)} {outcome : ExpansionOutcome (List (List Marked))}
-          → Expands counted first (done tokens later) → ExpandsEach later rest outcome
+          → Expands false counted first (done tokens later) → ExpandsEach later rest outcome
           → ExpandsEach counted (first ∷ rest) (led_by tokens outcome)
       ends : {counted : ℕ} {first : List Marked} {rest : List (List Marked)} {fault : MacroFault}
-          → Expands counted first (stopped fault) → ExpandsEach counted (first ∷ rest) (stopped fault)
+          → Expands false counted first (stopped fault) → ExpandsEach counted (first ∷ rest) (stopped fault)
 
     -- what a call and the tokens behind it become, once the arguments are expanded: what the call puts is counted, and
     -- read again together with the tokens behind
-    pub data Continues : Call → List Marked → ExpansionOutcome (List (List Marked)) → ExpansionOutcome (List Marked) → Type 0 where
-      stops : {call : Call} {after : List Marked} {fault : MacroFault} → Continues call after (stopped fault) (stopped fault)
-      unpasted : {call : Call} {after : List Marked} {fulls : List (List Marked)} {counted : ℕ}
+    pub data Continues : Bool → Call → List Marked → ExpansionOutcome (List (List Marked)) → ExpansionOutcome (List Marked) → Type 0 where
+      stops : {condition : Bool} {call : Call} {after : List Marked} {fault : MacroFault} → Continues condition call after (stopped fault) (stopped fault)
+      unpasted : {condition : Bool} {call : Call} {after : List Marked} {fulls : List (List Marked)} {counted : ℕ}
           → ((put : List Marked) → IsReplacement call fulls put → ⊥)
-          → Continues call after (done fulls counted) (stopped (fault_at BadPaste call.name))
-      passes : {call : Call} {after : List Marked} {fulls : List (List Marked)} {counted : ℕ} {put : List Marked}
+          → Continues condition call after (done fulls counted) (stopped (fault_at BadPaste call.name))
+      passes : {condition : Bool} {call : Call} {after : List Marked} {fulls : List (List Marked)} {counted : ℕ} {put : List Marked}
           → IsReplacement call fulls put → room < counted + length put
-          → Continues call after (done fulls counted) (stopped (fault_at TooLong call.name))
-      again : {call : Call} {after : List Marked} {fulls : List (List Marked)} {counted : ℕ} {put : List Marked} {outcome : ExpansionOutcome (List Marked)}
-          → IsReplacement call fulls put → counted + length put ≤ room → Expands (counted + length put) (put ++ after) outcome
-          → Continues call after (done fulls counted) outcome
+          → Continues condition call after (done fulls counted) (stopped (fault_at TooLong call.name))
+      again : {condition : Bool} {call : Call} {after : List Marked} {fulls : List (List Marked)} {counted : ℕ} {put : List Marked} {outcome : ExpansionOutcome (List Marked)}
+          → IsReplacement call fulls put → counted + length put ≤ room → Expands condition (counted + length put) (put ++ after) outcome
+          → Continues condition call after (done fulls counted) outcome
 
 -- ---- the list of a text
 
@@ -156,11 +179,11 @@ unbroken broken (token ∷ tokens) = by_kind token.kind (unbroken true tokens) (
     by_kind Line broken_rest rest = broken_rest
     by_kind kind broken_rest rest = kept_token ∷ rest
 
--- a text of tokens becomes these tokens, and so many are put
-abbrev pub IsExpansion : List Macro → List Token → ℕ → List Token → ℕ → Type 0
-IsExpansion macros tokens room expanded counted =
-    (marked : List Marked) × Expands macros room 0 (unbroken false tokens) (done marked counted) × (expanded ≡ map (λ m. m.token) marked)
+-- the tokens of a condition, or of a text, become these tokens, and so many are put
+abbrev pub IsExpansion : Bool → List Macro → List Token → ℕ → List Token → ℕ → Type 0
+IsExpansion condition macros tokens room expanded counted =
+    (marked : List Marked) × Expands macros room condition 0 (unbroken false tokens) (done marked counted) × (expanded ≡ map (λ m. m.token) marked)
 
 -- the first refusal
-abbrev pub IsRefusal : List Macro → List Token → ℕ → MacroFault → Type 0
-IsRefusal macros tokens room fault = Expands macros room 0 (unbroken false tokens) (stopped fault)
+abbrev pub IsRefusal : Bool → List Macro → List Token → ℕ → MacroFault → Type 0
+IsRefusal condition macros tokens room fault = Expands macros room condition 0 (unbroken false tokens) (stopped fault)

@@ -6,7 +6,7 @@ use Rattle.ct_macro.specs.declared.reading.Step.{Step}
 use Rattle.ct_macro.specs.declared.reading.Step.TheVariants as step
 use Rattle.ct_macro.specs.declared.expander.Frame.{Frame}
 use Rattle.ct_macro.specs.declared.expander.Expander.{Expander}
-use Rattle.ct_macro.specs.Expansion.{Reading, kept, refused, replaced, ExpansionOutcome, done, stopped, Expands, ExpandsEach, Continues}
+use Rattle.ct_macro.specs.Expansion.{Reading, kept, refused, replaced, ExpansionOutcome, done, stopped, led_all, Expands, ExpandsEach, Continues}
 
 -- the code's answer for a token is this reading; what is left behind it
 abbrev pub StepGives : Marked → List Marked → Step → List Marked → Reading → Type 0
@@ -14,18 +14,13 @@ StepGives first rest (step.Kept token) after reading = (reading ≡ kept) × (to
 StepGives first rest (step.Refused kind name) after reading = (reading ≡ refused kind) × (name ≡ first)
 StepGives first rest (step.Replaced call fulls) after reading = reading ≡ replaced call fulls after
 
--- tokens before those of an outcome
-abbrev pub led_all : {A : Type 0} → List A → ExpansionOutcome (List A) → ExpansionOutcome (List A)
-led_all before (done rest counted) = done (before ++ rest) counted
-led_all before (stopped fault) = stopped fault
-
 module _ (macros : List Macro) (room : ℕ) where
   -- what the list becomes in which a call stands, once so many of its arguments are expanded
   pub record Finishes (frame : Frame) (fulls : List (List Marked)) (counted : ℕ) (whole : ExpansionOutcome (List Marked)) : Type 0 where
     pub more : ExpansionOutcome (List (List Marked))
     pub rest : ExpansionOutcome (List Marked)
     pub each : ExpandsEach macros room counted frame.waiting more
-    pub continues : Continues macros room frame.call frame.rest (led_all fulls more) rest
+    pub continues : Continues macros room frame.condition frame.call frame.rest (led_all fulls more) rest
     pub whole_is : whole ≡ led_all frame.done rest
 
   -- the same, from what the argument that is being expanded becomes
@@ -44,7 +39,7 @@ module _ (macros : List Macro) (room : ℕ) where
 
   abbrev pub Comes : Expander → ExpansionOutcome (List Marked) → Type 0
   Comes state outer =
-      (inner : ExpansionOutcome (List Marked)) × Expands macros room state.counted state.rest inner × Resumes state.calls (led_all state.done inner) outer
+      (inner : ExpansionOutcome (List Marked)) × Expands macros room state.condition state.counted state.rest inner × Resumes state.calls (led_all state.done inner) outer
 
 -- ---- how much is still to be read
 

@@ -1,6 +1,6 @@
 //! The expansion of a list, with the calls that are open kept in a vector.
 
-ghost use Rattle.std.specs.Prelude.{◌≡◌, ◌∷◌, [], ◌+◌, ◌-◌, ◌*◌, ◌<◌, ◌≤◌, List, true, false, IfOk, OnOk};
+ghost use Rattle.std.specs.Prelude.{◌≡◌, ◌∷◌, [], ◌+◌, ◌-◌, ◌*◌, ◌<◌, ◌≤◌, ◌++◌, List, take, drop, true, false, IfOk, OnOk};
 ghost use Rattle.ct_base.specs.Answers.{IfFault};
 ghost use Rattle.ct_base.specs.declared.memory.Fail.TheVariants.{Fault};
 ghost use Rattle.ct_macro_call.specs.declared.definition.Macro as declared_macro;
@@ -10,6 +10,7 @@ ghost use Rattle.ct_macro.specs.Expansion as spec;
 ghost use Rattle.ct_macro.specs.Machine.{Comes, GoesOn, weight, weight_frame, weight_frames};
 
 use crate::faults::{MacroFault, MacroKind};
+use crate::keeping::{move_front, stay_behind};
 use crate::reading::{Step, read_token};
 use crate::table::Macros;
 use ct_base::{Fail, Items, Mem, Out};
@@ -18,7 +19,8 @@ use std::alloc::Global;
 use std::mem;
 
 /// A call whose arguments are being expanded: those that wait, those that are done but for the one that
-/// is being expanded, and the tokens before and behind the call in its list.
+/// is being expanded, the tokens before and behind the call in its list, and whether the list is that of
+/// a condition.
 #[derive(Drop)]
 pub struct Frame {
     pub call: Call,
@@ -26,16 +28,19 @@ pub struct Frame {
     pub fulls: Items<Items<Marked>>,
     pub done: Items<Marked>,
     pub rest: Source<Marked>,
+    pub condition: bool,
 }
 
 /// How far an expansion has come: how many tokens were put, the calls whose arguments are being
-/// expanded, the innermost first, and of the innermost list what is done and what is left.
+/// expanded, the innermost first, and of the innermost list what is done, what is left, and whether it is
+/// that of a condition.
 #[derive(Drop)]
 pub struct Expander {
     pub counted: u64,
     pub calls: Source<Frame>,
     pub done: Items<Marked>,
     pub rest: Source<Marked>,
+    pub condition: bool,
 }
 
 /// The refusal of the replacement of a name.
@@ -52,8 +57,9 @@ fn refusal(kind: MacroKind, name: Marked) -> Fail<MacroFault>
 
 impl Expander {
     /// The beginning of the expansion of a list.
-    pub fn new(alloc: Global, tokens: Items<Marked>) -> Mem<Expander>
-        ensures { IfOk result (λ state. (state.counted ≡ 0) × (state.calls ≡ []) × (state.done ≡ []) × (state.rest ≡ tokens)) }
+    pub fn new(alloc: Global, tokens: Items<Marked>, condition: bool) -> Mem<Expander>
+        ensures { IfOk result (λ state. (state.condition ≡ condition) × (state.counted ≡ 0) × (state.calls ≡ []) × (state.done ≡ [])
+            × (state.rest ≡ tokens)) }
     {
         let mut rest = Source::new(alloc);
         rest.put_front(tokens)?;
@@ -62,6 +68,7 @@ impl Expander {
             calls: Source::new(alloc),
             done: Items::new(alloc),
             rest,
+            condition,
         })
     }
 
@@ -83,6 +90,7 @@ impl Expander {
             fulls,
             done,
             rest,
+            condition,
         } = frame;
         let Some(put) = call.put(alloc, fulls.as_slice())? else {
             return Err(refusal(MacroKind::BadPaste, call.name));
@@ -93,6 +101,7 @@ impl Expander {
         self.counted += put.len() as u64;
         self.done = done;
         self.rest = rest;
+        self.condition = condition;
         self.rest.put_front(put)?;
         Ok(())
     }
@@ -116,6 +125,7 @@ impl Expander {
         rest.put_front(argument)?;
         self.done = Items::new(alloc);
         self.rest = rest;
+        self.condition = false;
         self.calls.push(frame)?;
         Ok(())
     }
@@ -143,6 +153,17 @@ impl Expander {
         Ok(true)
     }
 
+    /// Keeps a token, and what it modifies where it is the `defined` of a condition.
+    fn keep(&mut self, token: Marked) -> Mem<()>
+        ensures { OnOk result ((self.new.condition ≡ self.old.condition) × (self.new.counted ≡ self.old.counted) × (self.new.calls ≡ self.old.calls)
+            × (self.new.done ≡ self.old.done ++ token ∷ take (spec.stay_behind self.old.condition token self.old.rest) self.old.rest)
+            × (self.new.rest ≡ drop (spec.stay_behind self.old.condition token self.old.rest) self.old.rest)) }
+    {
+        let count = stay_behind(self.condition, &token, &mut self.rest)?;
+        self.done.push(token)?;
+        move_front(&mut self.rest, &mut self.done, count)
+    }
+
     /// Reads the next token of the innermost list.
     #[tactic(none)]
     fn read(
@@ -153,16 +174,16 @@ impl Expander {
         first: Marked,
     ) -> Out<(), MacroFault>
         requires { self.old.counted ≤ room }
-        ensures goes { OnOk result ((before : declared_state.Expander) → before.counted ≡ self.old.counted → before.calls ≡ self.old.calls
+        ensures goes { OnOk result ((before : declared_state.Expander) → before.condition ≡ self.old.condition → before.counted ≡ self.old.counted → before.calls ≡ self.old.calls
             → before.done ≡ self.old.done → before.rest ≡ first ∷ self.old.rest
             → (outer : spec.ExpansionOutcome (List Marked)) → Comes macros.now room self.new outer → Comes macros.now room before outer) }
         ensures within { OnOk result ((self.new.counted ≤ room) × (weight room self.new < weight room self.old + 1)) }
-        ensures fault { IfFault result (λ fault. (before : declared_state.Expander) → before.counted ≡ self.old.counted → before.calls ≡ self.old.calls
+        ensures fault { IfFault result (λ fault. (before : declared_state.Expander) → before.condition ≡ self.old.condition → before.counted ≡ self.old.counted → before.calls ≡ self.old.calls
             → before.done ≡ self.old.done → before.rest ≡ first ∷ self.old.rest → Comes macros.now room before (spec.stopped fault)) }
     {
         match read_token(alloc, macros, first, &mut self.rest)? {
             Step::Kept(token) => {
-                self.done.push(token)?;
+                self.keep(token)?;
                 Ok(())
             }
             Step::Refused(kind, name) => Err(refusal(kind, name)),
@@ -175,6 +196,7 @@ impl Expander {
                     fulls: Items::new(alloc),
                     done: mem::replace(&mut self.done, Items::new(alloc)),
                     rest: mem::replace(&mut self.rest, Source::new(alloc)),
+                    condition: self.condition,
                 };
                 self.go_on(alloc, room, frame)
             }

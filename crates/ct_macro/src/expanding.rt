@@ -58,25 +58,28 @@ fn stripped(alloc: Global, list: Items<Marked>) -> Mem<Items<Token>>
 
 /// Expands a list of tokens (C11 6.10.3), where replacements may put so many tokens. New-lines in the
 /// list are white space. Tokens of a replacement have the place of the replaced name, and `__LINE__`
-/// is the line of its own place. The first refusal is answered: `Arguments`, `OpenCall`, `BadPaste`, or
-/// `TooLong` where more tokens are put.
+/// is the line of its own place. In a condition, what a `defined` modifies stays (C11 6.10.1p4). The
+/// first refusal is answered: `Arguments`, `OpenCall`, `BadPaste`, or `TooLong` where more tokens are
+/// put.
 pub fn expand(
     alloc: Global,
     macros: &Macros,
     tokens: &[Token],
     room: u64,
+    condition: bool,
 ) -> Out<Expansion, MacroFault>
-    ensures expansion { IfOk result (λ expansion. spec.IsExpansion macros.now tokens.now room expansion.tokens expansion.counted) }
-    ensures refusal { IfFault result (λ fault. spec.IsRefusal macros.now tokens.now room fault) }
+    ensures expansion { IfOk result (λ expansion. spec.IsExpansion condition macros.now tokens.now room expansion.tokens expansion.counted) }
+    ensures refusal { IfFault result (λ fault. spec.IsRefusal condition macros.now tokens.now room fault) }
 {
     let list = unbroken(alloc, tokens)?;
-    let mut expander = Expander::new(alloc, list)?;
+    let mut expander = Expander::new(alloc, list, condition)?;
     expander.run(alloc, macros, room)?;
     let Expander {
         counted,
         calls: _,
         done,
         rest: _,
+        condition: _,
     } = expander;
     let tokens = stripped(alloc, done)?;
     Ok(Expansion { tokens, counted })

@@ -4,6 +4,7 @@
 mod expander;
 mod expanding;
 mod faults;
+mod keeping;
 mod laws;
 mod reading;
 mod table;

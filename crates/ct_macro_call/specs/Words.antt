@@ -1,8 +1,10 @@
 -- The tokens and words that macros know, and how a definition names its arguments (C11 6.10.3). A token is told by
 -- its bytes alone, since they decide its kind.
-use Rattle.std.specs.Prelude.{ℕ, ◌||◌, Bool, true, false, List, [], ◌∷◌, ◌++◌, Option, Some, None, codes}
+use Rattle.std.specs.Prelude.{ℕ, ◌&&◌, ◌||◌, Bool, true, false, List, [], ◌∷◌, ◌++◌, Option, Some, None, codes}
 use Rattle.std.specs.Str.{bytes_eq}
 use Rattle.ct_base.specs.declared.lexical.Token.{Token}
+use Rattle.ct_base.specs.declared.lexical.TokenKind.{TokenKind}
+use Rattle.ct_base.specs.declared.lexical.TokenKind.TheVariants.{Name}
 use Rattle.ct_macro_call.specs.declared.definition.Macro.{Macro}
 
 -- `#`, also as a digraph (6.4.6p3)
@@ -21,6 +23,17 @@ is_close token = bytes_eq token.text (codes ")")
 
 abbrev pub is_comma : Token → Bool
 is_comma token = bytes_eq token.text (codes ",")
+
+abbrev pub is_name_kind : TokenKind → Bool
+is_name_kind Name = true
+is_name_kind kind = false
+
+abbrev pub is_name : Token → Bool
+is_name token = is_name_kind token.kind
+
+-- `defined`, which is an operator in a condition (6.10.1p1)
+abbrev pub is_operator : Token → Bool
+is_operator token = is_name token && bytes_eq token.text (codes "defined")
 
 -- `__VA_ARGS__`
 abbrev pub variable_arguments : List ℕ

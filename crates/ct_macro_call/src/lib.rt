@@ -18,4 +18,4 @@ pub use definition::Macro;
 pub use marked::{HideSet, Marked, copy_token};
 pub use source::Source;
 pub use substitute::one_replacement;
-pub use words::{is_line, is_open};
+pub use words::{is_line, is_name, is_open, is_operator};

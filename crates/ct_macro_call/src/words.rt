@@ -4,7 +4,7 @@ ghost use Rattle.std.specs.Prelude.{◌≡◌};
 ghost use Rattle.std.specs.Str.{bytes_eq};
 ghost use Rattle.ct_macro_call.specs.Words as spec;
 
-use ct_base::Token;
+use ct_base::{Token, TokenKind};
 
 /// `#`, also as a digraph (C11 6.4.6p3).
 pub fn is_hash(token: &Token) -> bool
@@ -39,6 +39,20 @@ pub fn is_comma(token: &Token) -> bool
     ensures { result ≡ spec.is_comma token.now }
 {
     token.text.as_slice() == b",".as_slice()
+}
+
+/// Whether a token is a name.
+pub fn is_name(token: &Token) -> bool
+    ensures { result ≡ spec.is_name token.now }
+{
+    token.kind == TokenKind::Name
+}
+
+/// Whether a token is `defined`, which is an operator in a condition (C11 6.10.1p1).
+pub fn is_operator(token: &Token) -> bool
+    ensures { result ≡ spec.is_operator token.now }
+{
+    is_name(token) && token.text.as_slice() == b"defined".as_slice()
 }
 
 /// Whether a name is `__VA_ARGS__`.

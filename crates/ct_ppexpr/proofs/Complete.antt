@@ -10,7 +10,7 @@ use Rattle.ct_ppexpr.specs.declared.words.Word.{Word}
 use Rattle.ct_ppexpr.specs.declared.words.Word.TheVariants as w
 use Rattle.ct_ppexpr.specs.Trees.{Tree, Constant, Paren, Prefix, Between, Choice, prefix_mark, infix_level, tree_level, spell, IsWellFormed}
 use Rattle.ct_ppexpr.specs.Machine.{Frame, InParen, InPrefix, InBetween, InYes, InNo, Stack, Mode, Want, Have, holds, plug, reduced, pull, act, at, step, whole, then_run, run, trees}
-use Rattle.ct_ppexpr.proofs.Levels.{infix_range, level_positive, stack_needs, stack_holds, loose, low}
+use Rattle.ct_ppexpr.proofs.Levels.{infix_range, infix_apart, level_positive, stack_needs, stack_holds, loose, low}
 
 -- how far the word behind a tree reaches back
 abbrev pub next_pull : List Word → ℕ
@@ -47,7 +47,7 @@ prefixed prefix.Not s rest = refl
 infix_read : (o : Infix) (s : Stack Tree) (l : Tree) (rest : List Word) → stack_needs s ≤ infix_level o → run trees (w.Mark (m.Infix o) ∷ rest) s (Have l) ≡ run trees rest (InBetween o l ∷ s) Want
 infix_read o s l rest n =
     let range = infix_range o in
-    acts (m.Infix o) s l rest (InBetween o l ∷ s) Want (loose s (infix_level o) n range.0 range.1) refl
+    acts (m.Infix o) s l rest (InBetween o l ∷ s) Want (loose s (infix_level o) n (infix_apart o) range.0 range.1) refl
 
 pub reads : (t : Tree) (s : Stack Tree) (rest : List Word) → IsWellFormed t → stack_needs s ≤ tree_level t → next_pull rest ≤ tree_level t → run trees (spell t rest) s Want ≡ run trees rest s (Have t)
 reads (Constant v) s rest wf n p = refl
@@ -64,11 +64,11 @@ reads (Between o l r) s rest wf n p =
     ∙ reads r (InBetween o l ∷ s) rest wf.3 wf.1 (omega (arith, p, wf.1))
     ∙ ended (InBetween o l) s r rest (omega (arith, infix_range o)) p
 reads (Choice c y z) s rest wf n p =
-    reads c s (w.Mark m.Question ∷ spell y (w.Mark m.Colon ∷ spell z rest)) wf.1 (omega (arith, n, wf.0)) wf.0
+    reads c s (w.Mark m.Question ∷ spell y (w.Mark m.Colon ∷ spell z rest)) wf.2 (omega (arith, n, wf.0)) wf.0
     ∙ acts m.Question s c (spell y (w.Mark m.Colon ∷ spell z rest)) (InYes c ∷ s) Want (low s n) refl
-    ∙ reads y (InYes c ∷ s) (w.Mark m.Colon ∷ spell z rest) wf.2 (level_positive y) (level_positive y)
+    ∙ reads y (InYes c ∷ s) (w.Mark m.Colon ∷ spell z rest) wf.3 (level_positive y) (level_positive y)
     ∙ acts m.Colon (InYes c ∷ s) y (spell z rest) (InNo c y ∷ s) Want (omega arith) refl
-    ∙ reads z (InNo c y ∷ s) rest wf.3 (level_positive z) (omega (arith, p, level_positive z))
+    ∙ reads z (InNo c y ∷ s) rest wf.4 wf.1 (omega (arith, p, wf.1))
     ∙ ended (InNo c y) s z rest (omega arith) p
 
 -- a tree is read from its own words

@@ -6,3 +6,4 @@ pub mod Mapping
 pub mod Both
 pub mod Reading
 pub mod Answering
+pub mod Answered

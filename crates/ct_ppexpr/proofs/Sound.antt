@@ -30,18 +30,18 @@ mode_words (Have x) ws = spell x ws
 
 -- the production that a frame becomes
 abbrev gives : Frame Tree → ℕ
-gives (InPrefix o) = 12
+gives (InPrefix o) = 13
 gives (InBetween o l) = infix_level o
-gives (InYes c) = 1
-gives (InNo c y) = 1
-gives InParen = 13
+gives (InYes c) = 2
+gives (InNo c y) = 2
+gives InParen = 14
 
 abbrev Fits : Frame Tree → Type 0
 Fits InParen = Unit {0}
 Fits (InPrefix o) = Unit {0}
 Fits (InBetween o l) = (infix_level o ≤ tree_level l) × IsWellFormed l
-Fits (InYes c) = (2 ≤ tree_level c) × IsWellFormed c
-Fits (InNo c y) = (2 ≤ tree_level c) × IsWellFormed c × IsWellFormed y
+Fits (InYes c) = (3 ≤ tree_level c) × IsWellFormed c
+Fits (InNo c y) = (3 ≤ tree_level c) × IsWellFormed c × IsWellFormed y
 
 abbrev IsStack : Stack Tree → Type 0
 IsStack [] = Unit {0}
@@ -49,7 +49,7 @@ IsStack (f ∷ s) = Fits f × (stack_needs s ≤ gives f) × IsStack s
 
 abbrev IsMode : Mode Tree → Type 0
 IsMode Want = Unit {0}
-IsMode (Have x) = IsWellFormed x × (13 ≤ tree_level x)
+IsMode (Have x) = IsWellFormed x × (14 ≤ tree_level x)
 
 -- a frame that is ended
 record Plugged (f : Frame Tree) (x : Tree) : Type 0 where
@@ -63,7 +63,7 @@ plugged InParen x h fits n wf = absurd (omega arith)
 plugged (InPrefix o) x h fits n wf = record { well_formed = (n, wf); high = refl; same = refl; spelled = λ ws. refl }
 plugged (InBetween o l) x h fits n wf = record { well_formed = (fits.0, n, fits.1, wf); high = refl; same = refl; spelled = λ ws. refl }
 plugged (InYes c) x h fits n wf = absurd (omega arith)
-plugged (InNo c y) x h fits n wf = record { well_formed = (fits.0, fits.1, fits.2, wf); high = refl; same = refl; spelled = λ ws. refl }
+plugged (InNo c y) x h fits n wf = record { well_formed = (fits.0, n, fits.1, fits.2, wf); high = refl; same = refl; spelled = λ ws. refl }
 
 record Reduced (p : ℕ) (s : Stack Tree) (x : Tree) (r : Stack Tree × Tree) : Type 0 where
   stack : IsStack r.0

@@ -19,15 +19,16 @@ Evaluates tokens outcome =
 abbrev pub IsNoExpression : List Token → Type 0
 IsNoExpression tokens = (words : List Word) (tree : Tree) → AreWords tokens words → SpellsCondition tree words → ⊥
 
--- a condition holds where its number is not 0
+-- A condition holds where its number is not 0. With a comma that is evaluated it is no constant expression (6.6p3).
 abbrev pub answer_of : Evaluated → Result Bool CondFault
 answer_of (Ok number) = Ok (not (is_zero number))
 answer_of (Err fault.DivideByZero) = Err DivideByZero
 answer_of (Err fault.Overflow) = Err Overflow
 answer_of (Err fault.Shift) = Err Shift
+answer_of (Err fault.Comma) = Err Grammar
 
 -- The answer to the tokens of a condition: by the value of the expression that they are, where the first fault of the
--- parts that are evaluated counts; or that they are no expression.
+-- parts that are evaluated counts, an evaluated comma among the faults; or that they are no expression.
 abbrev pub HasValue : List Token → Result Bool CondFault → Type 0
 HasValue tokens answer =
     ((outcome : Evaluated) × Evaluates tokens outcome × (answer ≡ answer_of outcome))

@@ -39,14 +39,14 @@ pub data Mode (A : Type 0) : Type 0 where
 -- how far a mark behind an operand reaches back: it ends the frames that hold at least so tightly
 abbrev pub pull : Mark → ℕ
 pull (m.Infix op) = infix_level op
-pull m.Question = 2
+pull m.Question = 3
 pull _ = 1
 
 -- how tightly a frame holds the operand behind it: 0 where only its own mark ends it
 abbrev pub holds : {A : Type 0} → Frame A → ℕ
-holds (InPrefix op) = 12
+holds (InPrefix op) = 13
 holds (InBetween op left) = infix_level op
-holds (InNo test one) = 1
+holds (InNo test one) = 2
 holds _ = 0
 
 abbrev pub prefix_of : Mark → Option UnaryOp

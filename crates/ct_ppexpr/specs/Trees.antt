@@ -1,4 +1,4 @@
--- The expressions of conditions: which words an expression is spelled by (6.5.3 to 6.5.15, 6.6), and its value.
+-- The expressions of conditions: which words an expression is spelled by (6.5.3 to 6.5.17, 6.6), and its value.
 use Rattle.std.specs.Prelude.{◌≡◌, ℕ, ◌+◌, ◌≤◌, List, [], ◌∷◌}
 use Rattle.ct_base.specs.declared.operators.BinaryOp.{BinaryOp}
 use Rattle.ct_base.specs.declared.operators.BinaryOp.TheVariants as op
@@ -6,7 +6,7 @@ use Rattle.ct_base.specs.declared.operators.UnaryOp.{UnaryOp}
 use Rattle.ct_base.specs.declared.operators.UnaryOp.TheVariants as prefix
 use Rattle.ct_ppexpr.specs.declared.values.Value.{Value}
 use Rattle.ct_ppexpr.specs.declared.words.Infix.{Infix}
-use Rattle.ct_ppexpr.specs.declared.words.Infix.TheVariants.{Compute, Both, Either}
+use Rattle.ct_ppexpr.specs.declared.words.Infix.TheVariants.{Compute, Both, Either, Comma}
 use Rattle.ct_ppexpr.specs.declared.words.Mark.{Mark}
 use Rattle.ct_ppexpr.specs.declared.words.Mark.TheVariants as m
 use Rattle.ct_ppexpr.specs.declared.words.Word.{Word}
@@ -22,35 +22,37 @@ pub data Tree : Type 0 where
 
 -- how tightly an operator binds its operands
 abbrev pub binary_level : BinaryOp → ℕ
-binary_level op.Or = 4
-binary_level op.Xor = 5
-binary_level op.And = 6
-binary_level op.Equal = 7
-binary_level op.NotEqual = 7
-binary_level op.Less = 8
-binary_level op.Greater = 8
-binary_level op.LessEqual = 8
-binary_level op.GreaterEqual = 8
-binary_level op.ShiftLeft = 9
-binary_level op.ShiftRight = 9
-binary_level op.Add = 10
-binary_level op.Subtract = 10
-binary_level op.Multiply = 11
-binary_level op.Divide = 11
-binary_level op.Remainder = 11
+binary_level op.Or = 5
+binary_level op.Xor = 6
+binary_level op.And = 7
+binary_level op.Equal = 8
+binary_level op.NotEqual = 8
+binary_level op.Less = 9
+binary_level op.Greater = 9
+binary_level op.LessEqual = 9
+binary_level op.GreaterEqual = 9
+binary_level op.ShiftLeft = 10
+binary_level op.ShiftRight = 10
+binary_level op.Add = 11
+binary_level op.Subtract = 11
+binary_level op.Multiply = 12
+binary_level op.Divide = 12
+binary_level op.Remainder = 12
 
 abbrev pub infix_level : Infix → ℕ
-infix_level Either = 2
-infix_level Both = 3
+infix_level Comma = 1
+infix_level Either = 3
+infix_level Both = 4
 infix_level (Compute op) = binary_level op
 
--- the production that an expression is of: a conditional expression, an operator, a unary or a primary expression
+-- the production that an expression is of: an expression with commas, a conditional expression, one of another operator,
+-- a unary or a primary expression
 abbrev pub tree_level : Tree → ℕ
-tree_level (Choice test one other) = 1
+tree_level (Choice test one other) = 2
 tree_level (Between op left right) = infix_level op
-tree_level (Prefix op operand) = 12
-tree_level (Paren inner) = 13
-tree_level (Constant value) = 13
+tree_level (Prefix op operand) = 13
+tree_level (Paren inner) = 14
+tree_level (Constant value) = 14
 
 abbrev pub prefix_mark : UnaryOp → Mark
 prefix_mark prefix.Plus = m.Infix (Compute op.Add)
@@ -70,10 +72,11 @@ spell (Choice test one other) rest = spell test (w.Mark m.Question ∷ spell one
 abbrev pub IsWellFormed : Tree → Type 0
 IsWellFormed (Constant value) = Unit {0}
 IsWellFormed (Paren inner) = IsWellFormed inner
-IsWellFormed (Prefix op operand) = (12 ≤ tree_level operand) × IsWellFormed operand
+IsWellFormed (Prefix op operand) = (13 ≤ tree_level operand) × IsWellFormed operand
 IsWellFormed (Between op left right) =
     (infix_level op ≤ tree_level left) × (infix_level op + 1 ≤ tree_level right) × IsWellFormed left × IsWellFormed right
-IsWellFormed (Choice test one other) = (2 ≤ tree_level test) × IsWellFormed test × IsWellFormed one × IsWellFormed other
+IsWellFormed (Choice test one other) =
+    (3 ≤ tree_level test) × (2 ≤ tree_level other) × IsWellFormed test × IsWellFormed one × IsWellFormed other
 
 -- The expression spells the words, all of them.
 pub record SpellsCondition (tree : Tree) (words : List Word) : Type 0 where

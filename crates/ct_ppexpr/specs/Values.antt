@@ -14,10 +14,10 @@ use Rattle.ct_ctype.specs.Conversion.{common_kind, converted}
 use Rattle.ct_ctype.specs.Operation.{binary_result, unary_result, is_zero, is_shift}
 use Rattle.ct_token.specs.declared.constants.Literal.{Literal}
 use Rattle.ct_ppexpr.specs.declared.values.Fault.{Fault}
-use Rattle.ct_ppexpr.specs.declared.values.Fault.TheVariants.{DivideByZero, Overflow, Shift}
+use Rattle.ct_ppexpr.specs.declared.values.Fault.TheVariants.{DivideByZero, Overflow, Shift, Comma}
 use Rattle.ct_ppexpr.specs.declared.values.Value.{Value}
 use Rattle.ct_ppexpr.specs.declared.words.Infix.{Infix}
-use Rattle.ct_ppexpr.specs.declared.words.Infix.TheVariants.{Compute, Both, Either}
+use Rattle.ct_ppexpr.specs.declared.words.Infix.TheVariants.{Compute, Both, Either, Comma as CommaOperator}
 
 abbrev pub Evaluated : Type 0
 Evaluated = Result ℤ Fault
@@ -95,10 +95,12 @@ abbrev pub either_outcome : Evaluated → Evaluated → Evaluated
 either_outcome left right =
     then_do left (λ a. if is_zero a then truth_outcome right else Ok (pos 1))
 
+-- no comma may be evaluated, whatever its operands are (6.6p3); its type is that of the right one (6.5.17p2)
 abbrev pub infix_value : Infix → Value → Value → Value
 infix_value (Compute op) left right = binary_value op left right
 infix_value Both left right = value false (both_outcome left.outcome right.outcome)
 infix_value Either left right = value false (either_outcome left.outcome right.outcome)
+infix_value CommaOperator left right = value right.unsigned (Err Comma)
 
 -- one of the two is evaluated, and converted to their common type (6.5.15p4, 6.5.15p5)
 abbrev pub choice_outcome : IntKind → Evaluated → Evaluated → Evaluated → Evaluated

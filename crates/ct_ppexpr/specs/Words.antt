@@ -8,7 +8,7 @@ use Rattle.ct_base.specs.declared.operators.BinaryOp.TheVariants as op
 use Rattle.ct_token.specs.Constants.{integer_of, Decodes}
 use Rattle.ct_token.specs.declared.constants.Literal.{Literal}
 use Rattle.ct_ppexpr.specs.Values.{name_value, literal_value, character_value}
-use Rattle.ct_ppexpr.specs.declared.words.Infix.TheVariants.{Compute, Both, Either}
+use Rattle.ct_ppexpr.specs.declared.words.Infix.TheVariants.{Compute, Both, Either, Comma}
 use Rattle.ct_ppexpr.specs.declared.words.Mark.TheVariants as m
 use Rattle.ct_ppexpr.specs.declared.words.Word.{Word}
 use Rattle.ct_ppexpr.specs.declared.words.Word.TheVariants as w
@@ -33,7 +33,8 @@ single_mark byte =
     else (if byte == 62 then computing op.Greater
     else (if byte == 38 then computing op.And
     else (if byte == 94 then computing op.Xor
-    else (if byte == 124 then computing op.Or else w.Stray)))))))))))))))
+    else (if byte == 124 then computing op.Or
+    else (if byte == 44 then w.Mark (m.Infix Comma) else w.Stray))))))))))))))))
 
 -- the same byte twice
 abbrev pub double_mark : ℕ → Word

@@ -1,6 +1,7 @@
 //! The value of a condition of preprocessing (C11 6.10.1).
 #![tactic(auto)]
 
+mod laws;
 mod machine;
 mod open;
 mod values;
@@ -12,6 +13,7 @@ ghost use Rattle.ct_base.specs.declared.lexical.Token.{Token as token};
 ghost use Rattle.ct_ppexpr.specs.Conditions.{answer_of, HasValue};
 ghost use Rattle.ct_ppexpr.specs.declared.CondFault.{CondFault as fault};
 
+pub use crate::laws::each_condition;
 use crate::machine::evaluate;
 use crate::values::{Evaluated, Fault};
 use crate::words::read_words;
@@ -22,7 +24,7 @@ use thiserror::Error;
 /// Why a condition has no value.
 #[derive(Clone, Copy, Debug, PartialEq, Eq, Error)]
 pub enum CondFault {
-    /// The tokens are no expression.
+    /// The tokens are no constant expression: no expression, or a comma is evaluated (C11 6.6p3).
     #[error("no expression")]
     Grammar,
     /// A division by zero (C11 6.5.5p5).
@@ -38,7 +40,8 @@ pub enum CondFault {
 
 /// Whether the condition holds that these tokens are, after expansion (C11 6.10.1). A name counts as
 /// 0. All arithmetic is that of the greatest integer types. `Grammar` says that the tokens are no
-/// expression; each other fault is the first one of the parts that are evaluated.
+/// expression, or that the first fault of the parts that are evaluated is a comma; each other fault is
+/// the first one of these parts.
 pub fn condition(alloc: Global, tokens: &[Token]) -> Out<bool, CondFault>
     ensures { OnAnswer result (HasValue tokens.now) }
 {
@@ -62,6 +65,7 @@ fn answer_to(outcome: Evaluated) -> Result<bool, CondFault>
         Err(Fault::DivideByZero) => Err(CondFault::DivideByZero),
         Err(Fault::Overflow) => Err(CondFault::Overflow),
         Err(Fault::Shift) => Err(CondFault::Shift),
+        Err(Fault::Comma) => Err(CondFault::Grammar),
     }
 }
 

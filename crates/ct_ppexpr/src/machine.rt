@@ -17,7 +17,7 @@ fn pull(mark: Mark) -> u8
 {
     match mark {
         Mark::Infix(op) => infix_level(op),
-        Mark::Question => 2,
+        Mark::Question => 3,
         Mark::Open | Mark::Close | Mark::Colon | Mark::Tilde | Mark::Bang => 1,
     }
 }
@@ -27,9 +27,9 @@ fn holds(frame: Frame) -> u8
     ensures { result ≡ m.holds (frame_of frame) }
 {
     match frame {
-        Frame::Prefix(_) => 12,
+        Frame::Prefix(_) => 13,
         Frame::Between(op, _) => infix_level(op),
-        Frame::Second(_, _) => 1,
+        Frame::Second(_, _) => 2,
         Frame::Paren | Frame::First(_) => 0,
     }
 }

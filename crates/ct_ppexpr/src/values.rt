@@ -17,6 +17,8 @@ pub(crate) enum Fault {
     DivideByZero,
     Overflow,
     Shift,
+    /// A comma that is evaluated.
+    Comma,
 }
 
 /// The number of an expression, or the first fault of its parts that are evaluated.
@@ -186,6 +188,10 @@ pub(crate) fn infix_value(op: Infix, left: Value, right: Value) -> Value
         Infix::Either => Value {
             unsigned: false,
             outcome: either(left.outcome, right.outcome),
+        },
+        Infix::Comma => Value {
+            unsigned: right.unsigned,
+            outcome: Err(Fault::Comma),
         },
     }
 }

@@ -17,6 +17,8 @@ pub(crate) enum Infix {
     Both,
     /// `||`
     Either,
+    /// `,`
+    Comma,
 }
 
 /// A mark of an expression.
@@ -46,8 +48,9 @@ pub(crate) fn infix_level(op: Infix) -> u8
     ensures { result ≡ trees.infix_level op }
 {
     match op {
-        Infix::Either => 2,
-        Infix::Both => 3,
+        Infix::Comma => 1,
+        Infix::Either => 3,
+        Infix::Both => 4,
         Infix::Compute(op) => binary_level(op),
     }
 }
@@ -56,14 +59,14 @@ fn binary_level(op: BinaryOp) -> u8
     ensures { result ≡ trees.binary_level op }
 {
     match op {
-        BinaryOp::Or => 4,
-        BinaryOp::Xor => 5,
-        BinaryOp::And => 6,
-        BinaryOp::Equal | BinaryOp::NotEqual => 7,
-        BinaryOp::Less | BinaryOp::Greater | BinaryOp::LessEqual | BinaryOp::GreaterEqual => 8,
-        BinaryOp::ShiftLeft | BinaryOp::ShiftRight => 9,
-        BinaryOp::Add | BinaryOp::Subtract => 10,
-        BinaryOp::Multiply | BinaryOp::Divide | BinaryOp::Remainder => 11,
+        BinaryOp::Or => 5,
+        BinaryOp::Xor => 6,
+        BinaryOp::And => 7,
+        BinaryOp::Equal | BinaryOp::NotEqual => 8,
+        BinaryOp::Less | BinaryOp::Greater | BinaryOp::LessEqual | BinaryOp::GreaterEqual => 9,
+        BinaryOp::ShiftLeft | BinaryOp::ShiftRight => 10,
+        BinaryOp::Add | BinaryOp::Subtract => 11,
+        BinaryOp::Multiply | BinaryOp::Divide | BinaryOp::Remainder => 12,
     }
 }
 
@@ -93,6 +96,7 @@ fn single_mark(byte: u8) -> Word
         b'&' => computing(BinaryOp::And),
         b'^' => computing(BinaryOp::Xor),
         b'|' => computing(BinaryOp::Or),
+        b',' => Word::Mark(Mark::Infix(Infix::Comma)),
         _ => Word::Stray,
     }
 }

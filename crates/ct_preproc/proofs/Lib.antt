@@ -20,3 +20,8 @@ mod Grouping
 mod Tracking
 mod Balance
 mod ByGroups
+mod EachAnswer
+mod EachReading
+mod EachDirective
+mod EachFile
+mod Defined

@@ -98,19 +98,19 @@ module _ (laws : Laws) (limit : ℕ) (Opens : Place → ℕ → Header → State
 
 module _ (laws : Laws) (limit : ℕ) (Opens : Place → ℕ → Header → State → Result State PreFault → Type 0)
     (opens_one : (place : Place) (line : ℕ) (header : Header) (state : State) → HasOne (Opens place line header state)) where
-  file_one : (place : Place) (text : List ℕ) (built_in : Bool) (state : State) → HasOne (ReadsFile limit Opens place text built_in state)
-  file_one place text built_in state =
-      reads_one (IsLexed place built_in (file_number place.path state.files) text)
+  file_one : (place : Place) (text : List ℕ) (state : State) → HasOne (ReadsFile limit Opens place text state)
+  file_one place text state =
+      reads_one (IsLexed place place.built_in (file_number place.path state.files) text)
       (λ tokens. ReadsLines limit Opens place (begins place state) (lines_of tokens))
-      (lexed_one laws place built_in (file_number place.path state.files) text) (λ tokens. lines_one laws limit Opens opens_one place (begins place state) (lines_of tokens))
+      (lexed_one laws place place.built_in (file_number place.path state.files) text) (λ tokens. lines_one laws limit Opens opens_one place (begins place state) (lines_of tokens))
 
   -- ---- includes
 
   returns_one : (place : Place) (target : Target) (state : State) → HasOne (Returns limit Opens place target state)
   returns_one place target state =
-      reads_one (ReadsFile limit Opens (inside place target.path) target.text target.built_in state)
+      reads_one (ReadsFile limit Opens (inside place target) target.text state)
       (λ after answer. answer ≡ Ok (record after { macros = with_path place.path after.macros }))
-      (file_one (inside place target.path) target.text target.built_in state)
+      (file_one (inside place target) target.text state)
       (λ after. this_one (Ok (record after { macros = with_path place.path after.macros })))
 
   target_one : (place : Place) (line : ℕ) (header : Header) (state : State) (target : Target)
@@ -165,10 +165,10 @@ have_defines_one laws place macros (define ∷ defines) a b f g =
 module _ (laws : Laws) (files : Files) (folders : List (List ℕ)) (heads : Heads) (headers : List BuiltIn) (tool : Bool) where
   reads_unit_one : (place : Place) (text : List ℕ) (macros : List Macro) → HasOne (ReadsUnit files folders heads headers tool place text macros)
   reads_unit_one place text macros =
-      reads_one (ReadsFile (most_tokens tool) (Enters files folders heads headers (most_tokens tool) (most_includes tool)) place text false (empty macros))
+      reads_one (ReadsFile (most_tokens tool) (Enters files folders heads headers (most_tokens tool) (most_includes tool)) place text (empty macros))
       (λ state answer. answer ≡ Ok (unit_of state))
       (file_one laws (most_tokens tool) (Enters files folders heads headers (most_tokens tool) (most_includes tool))
-      (enters_one laws files folders heads headers (most_tokens tool) (most_includes tool)) place text false (empty macros))
+      (enters_one laws files folders heads headers (most_tokens tool) (most_includes tool)) place text (empty macros))
       (λ state. this_one (Ok (unit_of state)))
 
   defines_unit_one : (place : Place) (text : List ℕ) (defines : List Define) → HasOne (DefinesUnit files folders heads headers tool place text defines)

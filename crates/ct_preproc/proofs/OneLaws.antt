@@ -14,12 +14,12 @@ pub record Laws : Type 0 where
   pub tokens : (file : ℕ) (text : List ℕ) (a b : List Token) → IsTokenization file text a → IsTokenization file text b → a ≡ b
   pub comment : (text : List ℕ) (a b : ℕ) → LeavesOpen text a → LeavesOpen text b → a ≡ b
   pub closed : (file : ℕ) (text : List ℕ) (tokens : List Token) (line : ℕ) → IsTokenization file text tokens → LeavesOpen text line → ⊥
-  pub expansion : (macros : List Macro) (tokens a b : List Token) (room m n : ℕ) → IsExpansion macros tokens room a m
-      → IsExpansion macros tokens room b n → (a ≡ b) × (m ≡ n)
-  pub apart : (macros : List Macro) (tokens a : List Token) (room m : ℕ) (fault : MacroFault)
-      → IsExpansion macros tokens room a m → IsRefusal macros tokens room fault → ⊥
-  pub refusal : (macros : List Macro) (tokens : List Token) (room : ℕ) (one other : MacroFault)
-      → IsRefusal macros tokens room one → IsRefusal macros tokens room other → one ≡ other
+  pub expansion : (condition : Bool) (macros : List Macro) (tokens a b : List Token) (room m n : ℕ) → IsExpansion condition macros tokens room a m
+      → IsExpansion condition macros tokens room b n → (a ≡ b) × (m ≡ n)
+  pub apart : (condition : Bool) (macros : List Macro) (tokens a : List Token) (room m : ℕ) (fault : MacroFault)
+      → IsExpansion condition macros tokens room a m → IsRefusal condition macros tokens room fault → ⊥
+  pub refusal : (condition : Bool) (macros : List Macro) (tokens : List Token) (room : ℕ) (one other : MacroFault)
+      → IsRefusal condition macros tokens room one → IsRefusal condition macros tokens room other → one ≡ other
   pub condition : (tokens : List Token) (a b : Result Bool CondFault) → HasValue tokens a → HasValue tokens b → a ≡ b
   pub group : (lines : List (List Token)) (a b : Group) (first second : Option ℕ) → IsOutline lines a first → IsOutline lines b second → a ≡ b
   pub broken : (lines : List (List Token)) (a b : Group) (first second : Option ℕ) → IsOutline lines a first → IsOutline lines b second → first ≡ second

@@ -37,8 +37,8 @@ abbrev pub closes : Place → Option ℕ → State → Result State PreFault
 closes place None state = Ok state
 closes place (Some line) state = Err (fault_at place line pre.Unbalanced)
 
-abbrev pub inside : Place → List ℕ → Place
-inside place path = record { path = path; depth = place.depth + 1 }
+abbrev pub inside : Place → Target → Place
+inside place target = record { path = target.path; depth = place.depth + 1; built_in = target.built_in }
 
 module _ (limit : ℕ) (Enters : Place → ℕ → Header → State → Result State PreFault → Type 0) where
   -- what follows a control line: an include of its header, or nothing
@@ -80,15 +80,15 @@ module _ (limit : ℕ) (Enters : Place → ℕ → Header → State → Result S
       (group : Group) × (broken : Option ℕ) × IsOutline lines group broken
       × DoesThen (ReadsGroup place state [] group) answer (λ after. answer ≡ closes place broken after)
 
-  abbrev pub ReadsFile : Place → List ℕ → Bool → State → Result State PreFault → Type 0
-  ReadsFile place text built_in state answer =
-      DoesThen (IsLexed place built_in (file_number place.path state.files) text) answer
+  abbrev pub ReadsFile : Place → List ℕ → State → Result State PreFault → Type 0
+  ReadsFile place text state answer =
+      DoesThen (IsLexed place place.built_in (file_number place.path state.files) text) answer
       (λ tokens. ReadsLines place (begins place state) (lines_of tokens) answer)
 
   -- behind an include `__FILE__` is again the path of the file that includes
   abbrev pub Returns : Place → Target → State → Result State PreFault → Type 0
   Returns place target state answer =
-      DoesThen (ReadsFile (inside place target.path) target.text target.built_in state) answer
+      DoesThen (ReadsFile (inside place target) target.text state) answer
       (λ after. answer ≡ Ok (record after { macros = with_path place.path after.macros }))
 
   -- An include is noted. Its file is read, if it is none whose `#pragma once` was met.

@@ -1,6 +1,6 @@
 -- What is done with the tokens of a file while it is read: each step gives the state behind it, or the first refusal
 -- (C11 6.10).
-use Rattle.std.specs.Prelude.{◌≡◌, ◌⊎◌, ℕ, ◌+◌, ◌-◌, ◌||◌, ◌==◌, not, nat_lt, Bool, true, false, List, [], ◌∷◌, ◌++◌, Option, Some, None, Result, Ok, Err, MatchOption, codes, map, if◌then◌else◌}
+use Rattle.std.specs.Prelude.{◌≡◌, ◌⊎◌, ℕ, ◌+◌, ◌-◌, ◌||◌, ◌==◌, not, is_some, nat_lt, Bool, true, false, List, [], ◌∷◌, ◌++◌, Option, Some, None, Result, Ok, Err, MatchOption, codes, map, if◌then◌else◌}
 use Rattle.std.specs.Bool.{MatchBool}
 use Rattle.std.specs.List.{list_any}
 use Rattle.std.specs.Str.{bytes_eq}
@@ -15,7 +15,7 @@ use Rattle.ct_macro_call.specs.declared.definition.Macro.{Macro}
 use Rattle.ct_macro.specs.declared.faults.MacroFault.{MacroFault}
 use Rattle.ct_macro.specs.declared.faults.MacroKind.{MacroKind}
 use Rattle.ct_macro.specs.declared.faults.MacroKind.TheVariants as macro
-use Rattle.ct_macro_call.specs.Definition.{is_malformed, Defines, IsRedefined, without}
+use Rattle.ct_macro_call.specs.Definition.{is_malformed, macro_named, Defines, IsRedefined, without}
 use Rattle.ct_macro.specs.Expansion.{IsExpansion, IsRefusal}
 use Rattle.ct_ppexpr.specs.declared.CondFault.{CondFault}
 use Rattle.ct_ppexpr.specs.Conditions.{HasValue}
@@ -24,8 +24,9 @@ use Rattle.ct_directive.specs.declared.faults.PreKind.{PreKind}
 use Rattle.ct_directive.specs.declared.faults.PreKind.TheVariants as pre
 use Rattle.ct_preproc.specs.declared.state.State.{State}
 use Rattle.ct_preproc.specs.declared.state.Place.{Place}
+use Rattle.ct_preproc.specs.declared.units.Definition.{Definition}
 use Rattle.ct_directive.specs.declared.forms.Header.{Header}
-use Rattle.ct_directive.specs.Forms.{header_in, quoted_header, is_defined, without_defined, has_operator, object_like}
+use Rattle.ct_directive.specs.Forms.{header_in, quoted_header, is_defined, without_defined, without_pragmas, has_operator, object_like}
 
 -- ---- refusals
 
@@ -108,18 +109,19 @@ kind_of macro.OpenCall = pre.OpenCall
 kind_of macro.BadPaste = pre.BadPaste
 kind_of macro.TooLong = pre.Limit Tokens
 
--- what tokens are expanded to, with the tokens that this counts
-abbrev pub Expands : Place → ℕ → State → List Token → Result (List Token × State) PreFault → Type 0
-Expands place limit state tokens (Ok found) =
-    (counted : ℕ) × IsExpansion state.macros tokens (limit - state.counted) found.0 counted
-    × (found.1 ≡ record state { counted = state.counted + counted })
-Expands place limit state tokens (Err fault) =
-    (found : MacroFault) × IsRefusal state.macros tokens (limit - state.counted) found × (fault ≡ fault_at place found.line (kind_of found.kind))
+-- what the tokens of a condition, or of a text, are expanded to, without the pragmas among them (6.10.3.4p3), and with the
+-- tokens that this counts
+abbrev pub Expands : Bool → Place → ℕ → State → List Token → Result (List Token × State) PreFault → Type 0
+Expands condition place limit state tokens (Ok found) =
+    (expanded : List Token) × (counted : ℕ) × IsExpansion condition state.macros tokens (limit - state.counted) expanded counted
+    × (found.0 ≡ without_pragmas expanded) × (found.1 ≡ record state { counted = state.counted + counted })
+Expands condition place limit state tokens (Err fault) =
+    (found : MacroFault) × IsRefusal condition state.macros tokens (limit - state.counted) found × (fault ≡ fault_at place found.line (kind_of found.kind))
 
 -- the text lines behind the last directive are expanded as one list
 abbrev pub Ends : Place → ℕ → State → List Token → Result State PreFault → Type 0
 Ends place limit state text answer =
-    DoesThen (Expands place limit state text) answer (λ found. answer ≡ Ok (record found.1 { tokens = found.1.tokens ++ found.0 }))
+    DoesThen (Expands false place limit state text) answer (λ found. answer ≡ Ok (record found.1 { tokens = found.1.tokens ++ found.0 }))
 
 -- ---- conditions (6.10.1)
 
@@ -133,10 +135,10 @@ Judged place line after words answer =
     MatchBool (has_operator words) (answer ≡ Err (fault_at place line pre.Condition))
     ((value : Result Bool CondFault) × HasValue words value × (answer ≡ condition_answer place line after value))
 
--- `defined` is replaced before the expansion, and again behind it
+-- `defined` is replaced before the expansion, and again behind it, where macros made it
 abbrev pub Holds : Place → ℕ → ℕ → State → List Token → Result (Bool × State) PreFault → Type 0
 Holds place limit line state tokens answer =
-    DoesThen (Expands place limit state (without_defined state.macros tokens)) answer
+    DoesThen (Expands true place limit state (without_defined state.macros tokens)) answer
     (λ found. Judged place line found.1 (without_defined found.1.macros found.0) answer)
 
 -- `#ifdef` asks whether a name is defined, and `#ifndef` whether it is not
@@ -146,12 +148,22 @@ name_answer place line defined state (Some name) = Ok ((if defined then is_defin
 
 -- ---- definitions
 
+-- A definition is noted with the file in which it stands. Where the same one stands already, that one counts.
+abbrev pub with_definition : Place → List ℕ → List Macro → List Definition → List Definition
+with_definition place name macros definitions =
+    if is_some (macro_named name macros) then definitions
+    else definitions ++ record { name = name; path = place.path; built_in = place.built_in } ∷ []
+
+abbrev pub with_macro : Place → State → Macro → List Macro → State
+with_macro place state definition macros =
+    record state { macros = macros; definitions = with_definition place definition.name state.macros state.definitions }
+
 abbrev pub HasDefined : Place → ℕ → State → Option Macro → Result State PreFault → Type 0
 HasDefined place line state None answer = answer ≡ Err (fault_at place line pre.BadDirective)
 HasDefined place line state (Some definition) answer =
     MatchBool (is_malformed definition) (answer ≡ Err (fault_at place line pre.BadDefinition))
     ((IsRedefined state.macros definition × (answer ≡ Err (fault_at place line pre.Redefined)))
-    ⊎ ((macros : List Macro) × Defines state.macros definition macros × (answer ≡ Ok (record state { macros = macros }))))
+    ⊎ ((macros : List Macro) × Defines state.macros definition macros × (answer ≡ Ok (with_macro place state definition macros))))
 
 abbrev pub undefines : Place → ℕ → State → Option (List ℕ) → Result State PreFault
 undefines place line state None = Err (fault_at place line pre.BadDirective)
@@ -166,7 +178,7 @@ quoted_answer place line after (Some header) = Ok (header, after)
 -- tokens of another form are expanded, and are then one string
 abbrev pub NamesExpanded : Place → ℕ → ℕ → State → List Token → Result (Header × State) PreFault → Type 0
 NamesExpanded place limit line state tokens answer =
-    DoesThen (Expands place limit state tokens) answer (λ found. answer ≡ quoted_answer place line found.1 (quoted_header found.0))
+    DoesThen (Expands false place limit state tokens) answer (λ found. answer ≡ quoted_answer place line found.1 (quoted_header found.0))
 
 -- the header name of a directive
 abbrev pub Names : Place → ℕ → ℕ → State → List Token → Result (Header × State) PreFault → Type 0

@@ -59,18 +59,19 @@ predefined = with_number (codes "__STDC_VERSION__") (codes "201112L") (with_numb
 -- ---- the unit
 
 abbrev pub unit_of : State → SourceUnit
-unit_of state = record { tokens = state.tokens; files = state.files; includes = state.includes; macros = state.macros }
+unit_of state =
+    record { tokens = state.tokens; files = state.files; includes = state.includes; macros = state.macros; definitions = state.definitions }
 
 abbrev pub main_file : List ℕ → Place
-main_file path = record { path = path; depth = 0 }
+main_file path = record { path = path; depth = 0; built_in = false }
 
 abbrev pub empty : List Macro → State
-empty macros = record { tokens = []; files = []; includes = []; macros = macros; counted = 0; once = [] }
+empty macros = record { tokens = []; files = []; includes = []; macros = macros; definitions = []; counted = 0; once = [] }
 
 -- the unit of a text, where these macros stand at its begin
 abbrev pub ReadsUnit : Files → List (List ℕ) → Heads → List BuiltIn → Bool → Place → List ℕ → List Macro → Result SourceUnit PreFault → Type 0
 ReadsUnit files folders heads headers tool place text macros answer =
-    DoesThen (ReadsFile (most_tokens tool) (Enters files folders heads headers (most_tokens tool) (most_includes tool)) place text false (empty macros)) answer
+    DoesThen (ReadsFile (most_tokens tool) (Enters files folders heads headers (most_tokens tool) (most_includes tool)) place text (empty macros)) answer
     (λ state. answer ≡ Ok (unit_of state))
 
 -- the same, where the defines of the project do

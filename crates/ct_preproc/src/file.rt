@@ -1,16 +1,17 @@
 //! A file while it is read, and what is done with its tokens.
 
-ghost use Rattle.std.specs.Prelude.{◌≡◌};
+ghost use Rattle.std.specs.Prelude.{true, ◌≡◌, IfOk};
 ghost use Rattle.std.specs.Option.{option_copied};
 ghost use Rattle.ct_base.specs.Answers.{OnAnswer};
 ghost use Rattle.ct_directive.specs.Forms as forms;
 ghost use Rattle.ct_preproc.specs.Reading as spec;
 
 use crate::state::{Place, State};
-use ct_base::{Fail, Items, LimitKind, Out, Text, Token, TokenKind};
+use crate::units::Definition;
+use ct_base::{Bytes, Fail, Items, LimitKind, Mem, Out, Text, Token, TokenKind};
 use ct_directive::{
     Header, PreFault, PreKind, definition_in, has_operator, header_in, is_defined, quoted_header,
-    undefined_name, without_defined,
+    undefined_name, without_defined, without_pragmas,
 };
 use ct_macro::{MacroKind, expand};
 use ct_ppexpr::condition;
@@ -70,19 +71,24 @@ impl File<'_> {
         Ok(counted)
     }
 
-    /// The expansion of tokens, and the state behind it.
-    pub fn expanded(&self, state: State, tokens: &[Token]) -> Out<(Items<Token>, State), PreFault>
-        ensures { OnAnswer result (spec.Expands self.now.place.now self.now.limit state tokens.now) }
+    /// The expansion of the tokens of a condition, or of a text, without the pragmas in it, and the state behind it.
+    pub fn expanded(
+        &self,
+        state: State,
+        tokens: &[Token],
+        condition: bool,
+    ) -> Out<(Items<Token>, State), PreFault>
+        ensures { OnAnswer result (spec.Expands condition self.now.place.now self.now.limit state tokens.now) }
     {
         let mut state = state;
         let room = self.limit.saturating_sub(state.counted);
-        match expand(self.alloc, &state.macros, tokens, room) {
+        match expand(self.alloc, &state.macros, tokens, room, condition) {
             Ok(expansion) => {
                 let Some(counted) = state.counted.checked_add(expansion.counted) else {
                     return Err(Fail::OutOfMemory);
                 };
                 state.counted = counted;
-                Ok((expansion.tokens, state))
+                Ok((without_pragmas(self.alloc, expansion.tokens)?, state))
             }
             Err(Fail::Fault(fault)) => Err(self.fault(fault.line, kind_of(fault.kind))),
             Err(Fail::OutOfMemory) => Err(Fail::OutOfMemory),
@@ -93,7 +99,7 @@ impl File<'_> {
     fn text_expanded(&self, state: State, tokens: &[Token]) -> Out<State, PreFault>
         ensures { OnAnswer result (spec.Ends self.now.place.now self.now.limit state tokens.now) }
     {
-        let (expanded, state) = self.expanded(state, tokens)?;
+        let (expanded, state) = self.expanded(state, tokens, false)?;
         let mut state = state;
         state.tokens.append(expanded)?;
         Ok(state)
@@ -112,10 +118,10 @@ impl File<'_> {
         state: State,
         tokens: &[Token],
     ) -> Out<(Items<Token>, State), PreFault>
-        ensures { OnAnswer result (spec.Expands self.now.place.now self.now.limit state (forms.without_defined state.macros tokens.now)) }
+        ensures { OnAnswer result (spec.Expands true self.now.place.now self.now.limit state (forms.without_defined state.macros tokens.now)) }
     {
         let words = without_defined(self.alloc, &state.macros, tokens)?;
-        self.expanded(state, words.as_slice())
+        self.expanded(state, words.as_slice(), true)
     }
 
     /// Whether tokens hold in which each `defined` with its name is replaced.
@@ -167,7 +173,7 @@ impl File<'_> {
     ) -> Out<(Header, State), PreFault>
         ensures { OnAnswer result (spec.NamesExpanded self.now.place.now self.now.limit line state tokens.now) }
     {
-        let (expanded, state) = self.expanded(state, tokens)?;
+        let (expanded, state) = self.expanded(state, tokens, false)?;
         match quoted_header(self.alloc, expanded.as_slice())? {
             Some(header) => Ok((header, state)),
             None => Err(self.fault(line, PreKind::BadDirective)),
@@ -190,6 +196,21 @@ impl File<'_> {
         }
     }
 
+    /// The state with the place of a definition, where no macro of its name stands.
+    fn noted(&self, name: &[u8], state: State) -> Mem<State>
+        ensures { IfOk result (λ after. after ≡ record state { definitions = spec.with_definition self.now.place.now name.now state.macros state.definitions }) }
+    {
+        let mut state = state;
+        if state.macros.get(name).is_none() {
+            state.definitions.push(Definition {
+                name: Bytes::from_slice(self.alloc, name)?,
+                path: Text::copy_of(self.alloc, self.place.path.as_str())?,
+                built_in: self.place.built_in,
+            })?;
+        }
+        Ok(state)
+    }
+
     /// The state behind a `#define` with these tokens.
     pub fn defined(&self, line: u32, state: State, tokens: &[Token]) -> Out<State, PreFault>
         ensures { OnAnswer result (spec.HasDefined self.now.place.now line state (forms.definition_in tokens.now)) }
@@ -197,7 +218,7 @@ impl File<'_> {
         let Some(macro_) = definition_in(self.alloc, tokens)? else {
             return Err(self.fault(line, PreKind::BadDirective));
         };
-        let mut state = state;
+        let mut state = self.noted(macro_.name.as_slice(), state)?;
         match state.macros.define(macro_) {
             Ok(()) => Ok(state),
             Err(Fail::Fault(fault)) => Err(self.fault(line, kind_of(fault.kind))),

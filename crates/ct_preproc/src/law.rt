@@ -1,6 +1,7 @@
-//! The law of the unit of a file.
+//! The laws of the unit of a file.
 
-ghost use Rattle.std.specs.Prelude.{◌≡◌, ℕ, Bool, List, Result};
+ghost use Rattle.std.specs.Prelude.{◌≡◌, ℕ, Bool, List, Result, Some};
+ghost use Rattle.std.specs.FinMap.{get};
 ghost use Rattle.ct_directive.specs.Headers.{BuiltIn};
 ghost use Rattle.ct_directive.specs.declared.faults.PreFault.{PreFault};
 ghost use Rattle.ct_directive.specs.declared.heads.Heads.{Heads};
@@ -9,10 +10,10 @@ ghost use Rattle.ct_preproc.specs.Units.{IsPreprocessedUnit};
 ghost use Rattle.ct_preproc.specs.declared.units.SourceUnit.{SourceUnit};
 ghost use Rattle.ct_settings.specs.declared.record.Define.{Define};
 
-use ct_directive::one_outline;
-use ct_macro::one_expansion;
-use ct_ppexpr::one_condition;
-use ct_token::{one_open_comment, one_tokenization};
+use ct_directive::{each_meaning, each_outline, one_outline};
+use ct_macro::{each_list, one_expansion};
+use ct_ppexpr::{each_condition, one_condition};
+use ct_token::{each_text, one_open_comment, one_tokenization};
 
 /// A file has one unit or one first refusal, so `unit` gives that one.
 pub fn one_unit()
@@ -25,4 +26,16 @@ pub fn one_unit()
     one_outline();
     one_expansion();
     one_condition();
+}
+
+/// A file that is there has a unit or a first refusal.
+pub fn each_unit()
+    ensures { (files : Files) (folders : List (List ℕ)) (heads : Heads) (headers : List BuiltIn) (defines : List Define) (path text : List ℕ) (tool : Bool)
+        → get files path ≡ Some text → (answer : Result SourceUnit PreFault) × IsPreprocessedUnit files folders heads headers defines path tool answer }
+{
+    each_text();
+    each_list();
+    each_condition();
+    each_outline();
+    each_meaning();
 }

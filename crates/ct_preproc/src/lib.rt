@@ -13,5 +13,5 @@ mod state;
 mod units;
 
 pub use ct_directive::{Head, Heads, PreFault, PreKind};
-pub use law::one_unit;
-pub use units::{Include, SourceUnit, unit};
+pub use law::{each_unit, one_unit};
+pub use units::{Definition, Include, SourceUnit, unit};

@@ -108,13 +108,14 @@ impl<F: Finder> Reader<'_, F> {
         let inner = Place {
             path,
             depth: file.place.depth + 1,
+            built_in,
         };
         let inner_file = File {
             alloc: file.alloc,
             place: &inner,
             limit: file.limit,
         };
-        let mut state = self.read(more, inner_file, text.as_slice(), built_in, state)?;
+        let mut state = self.read(more, inner_file, text.as_slice(), state)?;
         state.macros = with_path(file.alloc, file.place.path.as_str(), state.macros)?;
         Ok(state)
     }
@@ -234,19 +235,12 @@ impl<F: Finder> Reader<'_, F> {
 
     /// A file, where so many more includes may nest.
     #[cycle(reads)]
-    pub fn read(
-        &self,
-        more: u32,
-        file: File<'_>,
-        text: &[u8],
-        built_in: bool,
-        state: State,
-    ) -> Out<State, PreFault>
+    pub fn read(&self, more: u32, file: File<'_>, text: &[u8], state: State) -> Out<State, PreFault>
         requires { file.place.now.depth + more < 2 ^ 32 }
-        ensures { OnAnswer result (spec.ReadsFile file.entry.limit (spec.Enters (F.texts self.now.search.finder.now) self.now.search.folders.now self.now.search.heads.now built_in_headers file.entry.limit more) file.entry.place.now text.now built_in state) }
+        ensures { OnAnswer result (spec.ReadsFile file.entry.limit (spec.Enters (F.texts self.now.search.finder.now) self.now.search.folders.now self.now.search.heads.now built_in_headers file.entry.limit more) file.entry.place.now text.now state) }
     {
         each_outline();
-        let tokens = numbered(file, text, built_in, &state)?;
+        let tokens = numbered(file, text, &state)?;
         let lines = lines_of(file.alloc, tokens)?;
         let reading = begun(file.alloc, file.place, state)?;
         self.lines(more, file, reading, lines)
@@ -254,10 +248,10 @@ impl<F: Finder> Reader<'_, F> {
 }
 
 /// The tokens of a file, by the number that it has in a state or is given there.
-fn numbered(file: File<'_>, text: &[u8], built_in: bool, state: &State) -> Out<Vec<Token>, PreFault>
-    ensures tokens { IfOk result (λ tokens. reads.IsLexed file.entry.place.now built_in (reads.file_number file.entry.place.now.path state.now.files) text.now (Ok tokens.items)) }
-    ensures open { IfFault result (λ fault. reads.IsLexed file.entry.place.now built_in (reads.file_number file.entry.place.now.path state.now.files) text.now (Err fault)) }
+fn numbered(file: File<'_>, text: &[u8], state: &State) -> Out<Vec<Token>, PreFault>
+    ensures tokens { IfOk result (λ tokens. reads.IsLexed file.entry.place.now file.entry.place.now.built_in (reads.file_number file.entry.place.now.path state.now.files) text.now (Ok tokens.items)) }
+    ensures open { IfFault result (λ fault. reads.IsLexed file.entry.place.now file.entry.place.now.built_in (reads.file_number file.entry.place.now.path state.now.files) text.now (Err fault)) }
 {
     let number = file_number(file.place.path.as_str(), state.files.as_slice());
-    file.lexed(built_in, number, text)
+    file.lexed(file.place.built_in, number, text)
 }

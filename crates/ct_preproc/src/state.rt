@@ -3,7 +3,7 @@
 ghost use Rattle.std.specs.Prelude.{◌≡◌, ◌∷◌, [], MatchOption, OnOk};
 ghost use Rattle.ct_preproc.specs.Steps.{is_active};
 
-use crate::units::Include;
+use crate::units::{Definition, Include};
 use ct_base::{Items, Mem, Text, Token};
 use ct_macro::Macros;
 use std::alloc::Global;
@@ -18,17 +18,19 @@ pub struct State {
     pub files: Items<Text>,
     pub includes: Items<Include>,
     pub macros: Macros,
+    pub definitions: Items<Definition>,
     /// The tokens of text lines, and those that replacements put.
     pub counted: u64,
     /// The files that are not read again (`#pragma once`).
     pub once: Items<Text>,
 }
 
-/// The file that is read, and how many includes lead to it.
+/// The file that is read, how many includes lead to it, and whether it is a built-in header.
 #[derive(Debug, Drop)]
 pub struct Place {
     pub path: Text,
     pub depth: u32,
+    pub built_in: bool,
 }
 
 /// An `#if`, `#ifdef` or `#ifndef` that is open (C11 6.10.1).

@@ -29,14 +29,26 @@ pub struct Include {
     pub line: u32,
 }
 
+/// A definition of a macro that a directive gave where no macro of the name stood: the name, the path of
+/// the file in which the directive stands, and whether that is a built-in header.
+#[derive(Debug, Drop)]
+pub struct Definition {
+    pub name: Bytes,
+    pub path: Text,
+    pub built_in: bool,
+}
+
 /// The unit of a file: its tokens after preprocessing; the paths of the files that were opened, by
-/// their numbers, its own first; the includes in the order of reading; and the macros at its end.
+/// their numbers, its own first; the includes in the order of reading; the macros at its end; and the
+/// definitions in the order of reading. A macro at the end is that of the last definition of its name; one
+/// that has none is predefined or a define of the project.
 #[derive(Drop)]
 pub struct SourceUnit {
     pub tokens: Items<Token>,
     pub files: Items<Text>,
     pub includes: Items<Include>,
     pub macros: Macros,
+    pub definitions: Items<Definition>,
 }
 
 /// The most tokens of a unit.
@@ -163,6 +175,7 @@ fn empty(alloc: Global, macros: Macros) -> State
         files: Items::new(alloc),
         includes: Items::new(alloc),
         macros,
+        definitions: Items::new(alloc),
         counted: 0,
         once: Items::new(alloc),
     }
@@ -179,7 +192,7 @@ impl<F: Finder> Reader<'_, F> {
         macros: Macros,
     ) -> Out<State, PreFault>
         requires { place.now.depth ≡ 0 }
-        ensures { OnAnswer result (files.ReadsFile (spec.most_tokens tool) (files.Enters (F.texts self.now.search.finder.now) self.now.search.folders.now self.now.search.heads.now built_in_headers (spec.most_tokens tool) (spec.most_includes tool)) place.now text.now false (spec.empty macros)) }
+        ensures { OnAnswer result (files.ReadsFile (spec.most_tokens tool) (files.Enters (F.texts self.now.search.finder.now) self.now.search.folders.now self.now.search.heads.now built_in_headers (spec.most_tokens tool) (spec.most_includes tool)) place.now text.now (spec.empty macros)) }
     {
         let limit = most_tokens(tool);
         let more = most_includes(tool);
@@ -189,7 +202,7 @@ impl<F: Finder> Reader<'_, F> {
             place,
             limit,
         };
-        self.read(more, file, text, false, state)
+        self.read(more, file, text, state)
     }
 
     /// The unit of a text, where these macros stand at its begin.
@@ -210,6 +223,7 @@ impl<F: Finder> Reader<'_, F> {
             files: state.files,
             includes: state.includes,
             macros: state.macros,
+            definitions: state.definitions,
         })
     }
 
@@ -257,6 +271,7 @@ pub fn unit<F: Finder>(
     let place = Place {
         path: Text::copy_of(alloc, path)?,
         depth: 0,
+        built_in: false,
     };
     let search = Search {
         finder,

@@ -18,11 +18,11 @@ use Rattle.ct_syntax.specs.Spelling.{spell_unit}
 use Rattle.ct_base.specs.Bytes.{is_nondigit}
 use Rattle.ct_syntax.specs.Scopes.{Scope}
 use Rattle.ct_syntax.specs.Units.{SpellsItems}
-use Rattle.ct_token.specs.Lines.{Placed, joined, joined_bytes, joined_lines}
+use Rattle.ct_token.specs.Lines.{Placed, source_characters, joined, joined_bytes, joined_lines}
 use Rattle.ct_token.specs.Lexing.{is_punctuator, IsToken, IsLongest, begins_comment, Piece, Blank, Word as Piece_word, bytes_of, IsPiece, spelled, ArePieces, tokens_of, IsTokenization}
 use Rattle.ct_print.specs.Text.{word_text, gap_behind, text_of}
 use Rattle.ct_print.specs.Printed.{StandsAlone, IsPrintable, IsTextOf}
-use Rattle.ct_print.proofs.Joining.{no_join, joined_same, no_join_space, no_join_newline}
+use Rattle.ct_print.proofs.Joining.{no_pair, joined_same, source_same, IsApart, backslash_apart, return_apart, no_pair_space, no_pair_newline}
 use Rattle.ct_print.proofs.Gaps.{IsGap, is_wordly, longest_before_gap, newline_longest, no_comment_before_gap, no_comment_in}
 use Rattle.ct_print.proofs.Standing.{IsAlone, stands_alone}
 use Rattle.ct_print.proofs.Unstray.{none_stray, none_stray_in}
@@ -100,11 +100,11 @@ gap_is (Sign OpenBrace) = inr refl
 gap_is (Sign CloseBrace) = inr refl
 gap_is _ = inl refl
 
-gap_joins_nothing : (w : Word) (rest : List ℕ) → no_join (word_text w) ≡ true → no_join rest ≡ true → no_join (word_text w ++ gap_behind w ∷ rest) ≡ true
-gap_joins_nothing (Sign Semicolon) rest h k = no_join_newline 59 rest refl k
-gap_joins_nothing (Sign OpenBrace) rest h k = no_join_newline 123 rest refl k
-gap_joins_nothing (Sign CloseBrace) rest h k = no_join_newline 125 rest refl k
-gap_joins_nothing w rest h k = no_join_space (word_text w) rest h k
+gap_pairs_nothing : (mark : ℕ) (w : Word) (rest : List ℕ) → IsApart mark → no_pair mark (word_text w) ≡ true → no_pair mark rest ≡ true → no_pair mark (word_text w ++ gap_behind w ∷ rest) ≡ true
+gap_pairs_nothing mark (Sign Semicolon) rest apart h k = no_pair_newline mark 59 rest apart apart.semicolon k
+gap_pairs_nothing mark (Sign OpenBrace) rest apart h k = no_pair_newline mark 123 rest apart apart.open_brace k
+gap_pairs_nothing mark (Sign CloseBrace) rest apart h k = no_pair_newline mark 125 rest apart apart.close_brace k
+gap_pairs_nothing mark w rest apart h k = no_pair_space mark (word_text w) rest apart h k
 
 gap_is_piece : (w : Word) (after : List ℕ) → IsPiece (gap_piece w) after
 gap_is_piece (Sign Semicolon) after = (newline_longest after, no_comment_in 10 after refl)
@@ -158,10 +158,16 @@ are_pieces (t ∷ ts) h =
     (word_is_piece t (spelled (pieces_of ts) []) h.0, (gap_is_piece (word t) (spelled (pieces_of ts) []), are_pieces ts h.1))
 
 -- no line of it is joined to the next
-joins_nothing : (ts : List Token) → AllByRecursion IsReady ts → no_join (text_of (words ts)) ≡ true
+joins_nothing : (ts : List Token) → AllByRecursion IsReady ts → no_pair 92 (text_of (words ts)) ≡ true
 joins_nothing [] h = refl
 joins_nothing (t ∷ ts) h =
-    gap_joins_nothing (word t) (text_of (words ts)) (ap no_join (spelled_word t.kind t.text h.0.known) ∙ h.0.alone.joins_nothing) (joins_nothing ts h.1)
+    gap_pairs_nothing 92 (word t) (text_of (words ts)) backslash_apart (ap (no_pair 92) (spelled_word t.kind t.text h.0.known) ∙ h.0.alone.joins_nothing) (joins_nothing ts h.1)
+
+-- and no carriage return belongs to the end of a line
+returns_nothing : (ts : List Token) → AllByRecursion IsReady ts → no_pair 13 (text_of (words ts)) ≡ true
+returns_nothing [] h = refl
+returns_nothing (t ∷ ts) h =
+    gap_pairs_nothing 13 (word t) (text_of (words ts)) return_apart (ap (no_pair 13) (spelled_word t.kind t.text h.0.known) ∙ h.0.alone.returns_nothing) (returns_nothing ts h.1)
 
 -- the tokens behind a gap
 behind_gap : (w : Word) (pieces : List Piece) (ws : List Word) (file : ℕ) (lines : List ℕ) → ((place : ℕ) (spaced : Bool) → words (text_tokens (tokens_of file lines place spaced pieces)) ≡ ws) → (place : ℕ) (spaced : Bool) → words (text_tokens (tokens_of file lines place spaced (gap_piece w ∷ pieces))) ≡ ws
@@ -183,10 +189,12 @@ words_of_pieces (t ∷ ts) h file lines place spaced =
 printed : (scope : Scope) (items : List Item) (file : ℕ) (ts : List Token) → SpellsItems scope items (words ts) → AllByRecursion IsReady ts → IsTextOf scope items file (text_of (words ts))
 printed scope items file ts spells h =
     let text = text_of (words ts) in
+    let lines = joined_lines (source_characters text) in
+    let bytes : joined_bytes (source_characters text) ≡ text = ap joined_bytes (source_same text (returns_nothing ts h)) ∙ joined_same 1 text (joins_nothing ts h) in
     record {
-      tokens = tokens_of file (joined_lines text) 0 false (pieces_of ts);
-      tokenization = (pieces_of ts, joined_same 1 text (joins_nothing ts h) ∙ sym (spelled_pieces ts h), are_pieces ts h, refl);
-      spells = subst (SpellsItems scope items) (sym (words_of_pieces ts h file (joined_lines text) 0 false)) spells;
+      tokens = tokens_of file lines 0 false (pieces_of ts);
+      tokenization = (pieces_of ts, bytes ∙ sym (spelled_pieces ts h), are_pieces ts h, refl);
+      spells = subst (SpellsItems scope items) (sym (words_of_pieces ts h file lines 0 false)) spells;
     }
 
 -- A tree that spells some list of tokens that stand alone spells the tokens of its printed text.

@@ -16,6 +16,8 @@ pub enum Shown {
     Places,
     /// What it includes.
     Includes,
+    /// The definitions of its macros.
+    Definitions,
     /// How many tokens it has.
     Count,
 }
@@ -54,7 +56,8 @@ impl Project {
     }
 
     /// The project of a row. Its options are `file PATH` and `head NAME`, with the text of a file and of the
-    /// head of a mock, `show tokens`, `show places`, `show includes` or `show count`, `scan`, and
+    /// head of a mock, `show tokens`, `show places`, `show includes`,
+    /// `show definitions` or `show count`, `scan`, and
     /// `define NAME TEXT`. Any other text is that of the file `m.c`. The unit is that of the first file.
     pub fn of_row(alloc: Global, row: &Row) -> Mem<Project> {
         let mut project = Project::new(alloc)?;
@@ -128,6 +131,7 @@ fn shown_by(name: &str) -> Shown {
     match name {
         "places" => Shown::Places,
         "includes" => Shown::Includes,
+        "definitions" => Shown::Definitions,
         "count" => Shown::Count,
         _ => Shown::Tokens,
     }

@@ -102,7 +102,7 @@ impl Steps {
             Err(Fail::Fault(_)) => return Ok(out.push_str("an open comment\n")?),
             Err(Fail::OutOfMemory) => return Err(OutOfMemory),
         };
-        match expand(alloc, &self.macros, all.as_slice(), self.room) {
+        match expand(alloc, &self.macros, all.as_slice(), self.room, false) {
             Ok(expansion) if self.places => push_places(alloc, &expansion, out),
             Ok(expansion) => push_tokens(expansion.tokens.as_slice(), out),
             Err(Fail::Fault(fault)) => push_fault(alloc, &fault, out),

@@ -47,6 +47,7 @@ fn push_shown(alloc: Global, shown: Shown, unit: &SourceUnit, out: &mut String) 
         Shown::Tokens => push_tokens(unit.tokens.as_slice(), out),
         Shown::Places => push_places(alloc, unit, out),
         Shown::Includes => push_includes(alloc, unit, out),
+        Shown::Definitions => push_definitions(unit, out),
         Shown::Count => push_number(alloc, unit.tokens.len() as u64, out),
     }
 }
@@ -95,6 +96,20 @@ fn push_includes(alloc: Global, unit: &SourceUnit, out: &mut String) -> Mem<()> 
         push_text(include.name.as_slice(), out)?;
         out.push_str(" is ")?;
         out.push_str(include.path.as_str())?;
+        out.push('\n')?;
+    }
+    Ok(())
+}
+
+/// Appends each definition of a macro: its name and its file, and whether that is a built-in header.
+fn push_definitions(unit: &SourceUnit, out: &mut String) -> Mem<()> {
+    for definition in unit.definitions.as_slice() {
+        push_text(definition.name.as_slice(), out)?;
+        out.push_str(" in ")?;
+        out.push_str(definition.path.as_str())?;
+        if definition.built_in {
+            out.push_str(", built in")?;
+        }
         out.push('\n')?;
     }
     Ok(())

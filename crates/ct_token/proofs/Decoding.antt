@@ -18,7 +18,7 @@ nothing_spelled quote inside rest e =
     }
 
 -- an element of a rest that spells bytes
-first_of_rest : (quote : ℕ) (rest : List ℕ) (byte count : ℕ) (bytes : List ℕ) → element_of quote rest ≡ Some (element byte count) → SpellsBytes quote rest bytes → (more : List ℕ) × (bytes ≡ byte ∷ more) × SpellsBytes quote (drop count rest) more
+pub first_of_rest : (quote : ℕ) (rest : List ℕ) (byte count : ℕ) (bytes : List ℕ) → element_of quote rest ≡ Some (element byte count) → SpellsBytes quote rest bytes → (more : List ℕ) × (bytes ≡ byte ∷ more) × SpellsBytes quote (drop count rest) more
 first_of_rest quote rest byte count [] is h =
     let wrong : None ≡ Some (element byte count) = sym (ap (element_of quote) h) ∙ is in absurd cc
 first_of_rest quote rest byte count (b ∷ bytes) is h =

@@ -10,11 +10,13 @@ pub mod Marks
 pub mod Comments
 pub mod Fronting
 pub mod Joining
+pub mod Returns
 pub mod Pieces
 pub mod Telling
 pub mod Unique
 pub mod Numbers
 pub mod Decoding
+pub mod Deciding
 pub mod Counting
 pub mod Decided
 pub mod LongestToken

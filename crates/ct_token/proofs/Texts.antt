@@ -6,7 +6,7 @@ use Rattle.std.proofs.lemmas.List.Elements.{All-nil, All-cons}
 use Rattle.std.proofs.lemmas.Bool.{cases_Bool, false≢true, eqb-true, and_parts, or_cases}
 use Rattle.ct_base.specs.declared.lexical.Token.{Token}
 use Rattle.ct_token.specs.Bytes.{is_newline, is_blank}
-use Rattle.ct_token.specs.Lines.{joined_bytes, joined_lines}
+use Rattle.ct_token.specs.Lines.{source_characters, joined_bytes, joined_lines}
 use Rattle.ct_token.specs.Lexing.{begins_comment, ends_line, Piece, Blank, BlockComment, LineComment, Word, bytes_of, IsPiece, spelled, ArePieces, tokens_of, IsTokenization, LeavesOpen}
 use Rattle.ct_token.proofs.Comments.{closing_behind, closed_at, not_closed}
 use Rattle.ct_token.proofs.Telling.{starts}
@@ -119,19 +119,19 @@ abbrev pub Answers : ℕ → List ℕ → Type 0
 Answers file text = ((tokens : List Token) × IsTokenization file text tokens) ⊎ ((line : ℕ) × LeavesOpen text line)
 
 pub text_answers : (file : ℕ) (text : List ℕ) → Answers file text
-text_answers file text = by_end (pieces_within (suc (length (joined_bytes text))) (joined_bytes text) (omega arith))
+text_answers file text = by_end (pieces_within (suc (length (joined_bytes (source_characters text)))) (joined_bytes (source_characters text)) (omega arith))
   where
-    at_end : (found : Pieces (joined_bytes text)) → IsEnd found.after → Answers file text
+    at_end : (found : Pieces (joined_bytes (source_characters text))) → IsEnd found.after → Answers file text
     at_end found (inl none) =
         inl (
-          tokens_of file (joined_lines text) 0 false found.pieces,
+          tokens_of file (joined_lines (source_characters text)) 0 false found.pieces,
           (found.pieces, found.split ∙ ap (spelled found.pieces) none, subst (ArePieces found.pieces) none found.stand, refl),
         )
     at_end found (inr opened) =
         inr (
-          slice_index (joined_lines text) (length (spelled found.pieces [])),
+          slice_index (joined_lines (source_characters text)) (length (spelled found.pieces [])),
           (found.pieces, opened.0, found.split ∙ ap (spelled found.pieces) opened.1, subst (ArePieces found.pieces) opened.1 found.stand, opened.2, refl),
         )
 
-    by_end : Pieces (joined_bytes text) → Answers file text
+    by_end : Pieces (joined_bytes (source_characters text)) → Answers file text
     by_end found = at_end found found.end

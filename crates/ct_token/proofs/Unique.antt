@@ -8,7 +8,7 @@ use Rattle.std.proofs.lemmas.Bool.{false≢true}
 use Rattle.ct_base.specs.declared.lexical.Token.{Token}
 use Rattle.ct_base.specs.declared.lexical.TokenKind.{TokenKind}
 use Rattle.ct_token.specs.Bytes.{is_newline, is_blank}
-use Rattle.ct_token.specs.Lines.{joined_bytes, joined_lines}
+use Rattle.ct_token.specs.Lines.{source_characters, joined_bytes, joined_lines}
 use Rattle.ct_token.specs.Lexing.{IsToken, IsLongest, HasNoClose, begins_comment, ends_line, Piece, Blank, BlockComment, LineComment, Word, bytes_of, IsPiece, spelled, ArePieces, tokens_of, AreTokens, IsOpenAt, IsTokenization, LeavesOpen}
 use Rattle.ct_token.proofs.Comments.{no_close_in_tail}
 use Rattle.ct_token.proofs.Telling.{starts, not_blank, same_kind}
@@ -180,12 +180,12 @@ same_pieces (p ∷ ps) (q ∷ qs) r s er es hp hq e =
 pub same_tokens : (file : ℕ) (text : List ℕ) (a b : List Token) → IsTokenization file text a → IsTokenization file text b → a ≡ b
 same_tokens file text a b one other =
     let same = same_pieces one.0 other.0 [] [] (inl refl) (inl refl) one.2 other.2 (sym one.1 ∙ other.1) in
-    one.3 ∙ ap (tokens_of file (joined_lines text) 0 false) same.0 ∙ sym other.3
+    one.3 ∙ ap (tokens_of file (joined_lines (source_characters text)) 0 false) same.0 ∙ sym other.3
 
 pub same_open : (text : List ℕ) (a b : ℕ) → LeavesOpen text a → LeavesOpen text b → a ≡ b
 same_open text a b one other =
     let same = same_pieces one.0 other.0 (47 ∷ 42 ∷ one.1) (47 ∷ 42 ∷ other.1) (inr (one.1, refl, one.4)) (inr (other.1, refl, other.4)) one.3 other.3 (sym one.2 ∙ other.2) in
-    one.5 ∙ ap (λ pieces. slice_index (joined_lines text) (length (spelled pieces []))) same.0 ∙ sym other.5
+    one.5 ∙ ap (λ pieces. slice_index (joined_lines (source_characters text)) (length (spelled pieces []))) same.0 ∙ sym other.5
 
 -- or one comment that is not closed
 pub not_both : (file : ℕ) (bytes bytes' lines lines' : List ℕ) (tokens : List Token) (line : ℕ) → bytes ≡ bytes' → AreTokens file bytes lines tokens → IsOpenAt bytes' lines' line → ⊥
@@ -198,7 +198,9 @@ not_both file bytes bytes' lines lines' tokens line e closed opened =
 
 pub open_or_closed : (file : ℕ) (text : List ℕ) (tokens : List Token) (line : ℕ) → IsTokenization file text tokens → LeavesOpen text line → ⊥
 open_or_closed file text tokens line closed opened =
-    not_both file (joined_bytes text) (joined_bytes text) (joined_lines text) (joined_lines text) tokens line refl closed opened
+    let bytes = joined_bytes (source_characters text) in
+    let lines = joined_lines (source_characters text) in
+    not_both file bytes bytes lines lines tokens line refl closed opened
 
 -- what follows for the value of a result
 pub for_value : {T E : Type 0} (r : Result T E) (P Q : T → Type 0) → ((t : T) → P t → Q t) → IfOk r P → IfOk r Q

@@ -8,7 +8,7 @@ use Rattle.ct_base.specs.declared.lexical.TokenKind.TheVariants.{Name, Number, C
 use Rattle.ct_base.specs.Bytes.{is_digit, is_nondigit, is_name_byte}
 use Rattle.ct_token.specs.Bytes.{is_newline, is_blank}
 use Rattle.ct_token.specs.Constants.{is_plain}
-use Rattle.ct_token.specs.Lines.{joined_bytes, joined_lines}
+use Rattle.ct_token.specs.Lines.{source_characters, joined_bytes, joined_lines}
 
 -- one of these bytes
 abbrev pub is_one_of : List ℕ → ℕ → Bool
@@ -164,8 +164,8 @@ IsOpenAt bytes lines line =
 
 -- The tokens of a whole text.
 abbrev pub IsTokenization : ℕ → List ℕ → List Token → Type 0
-IsTokenization file text tokens = AreTokens file (joined_bytes text) (joined_lines text) tokens
+IsTokenization file text tokens = AreTokens file (joined_bytes (source_characters text)) (joined_lines (source_characters text)) tokens
 
 -- The text leaves a comment open that begins on this line.
 abbrev pub LeavesOpen : List ℕ → ℕ → Type 0
-LeavesOpen text line = IsOpenAt (joined_bytes text) (joined_lines text) line
+LeavesOpen text line = IsOpenAt (joined_bytes (source_characters text)) (joined_lines (source_characters text)) line

@@ -1,6 +1,13 @@
--- The text with joined lines (C11 5.1.1.2, the second phase of translation).
+-- The characters of a text, and the text with joined lines (C11 5.1.1.2, the first two phases of translation).
 use Rattle.std.specs.Prelude.{ℕ, ◌+◌, ◌==◌, ◌&&◌, List, [], ◌∷◌, map, count_by, if◌then◌else◌}
 use Rattle.ct_token.specs.Bytes.{is_newline}
+
+-- The characters of a text: its bytes, but for each carriage return right before a new-line, with which it ends a line.
+abbrev pub source_characters : List ℕ → List ℕ
+source_characters [] = []
+source_characters (byte ∷ []) = byte ∷ []
+source_characters (byte ∷ next ∷ text) =
+    if (byte == 13) && is_newline next then source_characters (next ∷ text) else byte ∷ source_characters (next ∷ text)
 
 -- how many lines end in a text
 abbrev pub newlines : List ℕ → ℕ

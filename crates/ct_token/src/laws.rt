@@ -10,6 +10,11 @@ pub fn one_decoding()
     ensures { (text a b : List ℕ) → Decodes text a → Decodes text b → a ≡ b }
 {}
 
+/// Each text spells a list of bytes, or none.
+pub fn each_decoding()
+    ensures { (text : List ℕ) → ((bytes : List ℕ) × Decodes text bytes) ⊎ ((bytes : List ℕ) → Decodes text bytes → ⊥) }
+{}
+
 /// A text has one list of tokens: no other list is its tokenization, so `tokens` gives that one.
 pub fn one_tokenization()
     ensures { (file : ℕ) (text : List ℕ) (a b : List Token) →

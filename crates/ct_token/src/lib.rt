@@ -13,8 +13,8 @@ ghost use Rattle.ct_token.specs.Lines.{newlines};
 ghost use Rattle.ct_base.specs.Answers.{IfFault};
 
 pub use crate::constants::{Literal, character_count, characters, integer};
-pub use crate::laws::{each_text, one_decoding, one_open_comment, one_tokenization};
-use crate::lines::join_lines;
+pub use crate::laws::{each_decoding, each_text, one_decoding, one_open_comment, one_tokenization};
+use crate::lines::{join_lines, source_characters};
 use crate::scan::{Front, front_of};
 use ct_base::{Bytes, Fail, Out, Span, Token};
 use std::alloc::Global;
@@ -28,8 +28,8 @@ pub struct LexFault {
 }
 
 /// The preprocessing tokens of a text, each new-line outside comments as one of its own (C11
-/// 5.1.1.2, 6.4). The text is that of the file with the number `file`. Lines that end in a backslash
-/// are joined, and a comment is white space. The line of a span is the physical line of the token's
+/// 5.1.1.2, 6.4). The text is that of the file with the number `file`. A carriage return right before a
+/// new-line belongs to the end of the line. Lines that end in a backslash are joined, and a comment is white space. The line of a span is the physical line of the token's
 /// first byte, counted from 1. `LexFault` says that a comment is not closed.
 pub fn tokens(alloc: Global, file: u32, bytes: &[u8]) -> Out<Vec<Token>, LexFault>
     requires { newlines bytes.now < 2 ^ 32 - 1 }
@@ -38,7 +38,8 @@ pub fn tokens(alloc: Global, file: u32, bytes: &[u8]) -> Out<Vec<Token>, LexFaul
     // So the fault comes exactly where a comment is not closed.
     ensures closed { IfOk result (λ tokens. (line : ℕ) → LeavesOpen bytes.now line → ⊥) }
 {
-    let joined = join_lines(alloc, bytes)?;
+    let characters = source_characters(alloc, bytes)?;
+    let joined = join_lines(alloc, characters.as_slice())?;
     cut(
         alloc,
         file,

@@ -1,8 +1,8 @@
-//! The text with joined lines (C11 5.1.1.2, the second phase of translation).
+//! The characters of a text, and the text with joined lines (C11 5.1.1.2, the first two phases of translation).
 
 ghost use Rattle.std.specs.Prelude.{◌≡◌, ◌-◌, ◌^◌, ◌<◌, ◌&&◌, ◌==◌, ◌∷◌, [], IfOk, slice_index};
 ghost use Rattle.ct_token.specs.Bytes.{is_newline};
-ghost use Rattle.ct_token.specs.Lines.{newlines, joined_bytes, joined_lines};
+ghost use Rattle.ct_token.specs.Lines.{newlines, source_characters, joined_bytes, joined_lines};
 
 use ct_base::Mem;
 use std::alloc::Global;
@@ -12,6 +12,29 @@ use std::alloc::Global;
 pub struct Joined {
     pub bytes: Vec<u8>,
     pub lines: Vec<u32>,
+}
+
+/// Whether a byte is a carriage return right before a new-line.
+fn is_return(byte: u8, after: &[u8]) -> bool
+    ensures { result ≡ ((byte == 13) && is_newline (slice_index after.now 0)) }
+{
+    byte == b'\r' && matches!(after, [b'\n', ..])
+}
+
+/// The text without each carriage return that stands right before a new-line.
+pub fn source_characters(alloc: Global, text: &[u8]) -> Mem<Vec<u8>>
+    ensures { IfOk result (λ characters. characters.items ≡ source_characters text.now) }
+{
+    let mut characters = Vec::new(alloc);
+    let mut rest = text;
+    while let Some((byte, after)) = rest.split_first() {
+        rest = after;
+        if is_return(*byte, after) {
+            continue;
+        }
+        characters.push(*byte)?;
+    }
+    Ok(characters)
 }
 
 /// Whether a byte is a backslash right before a new-line.

@@ -7,7 +7,7 @@ use Rattle.ct_macro.proofs.laws.one_expansion.Goals as goal
 
 pub returns-clause-one : goal.returns-clause-one
 returns-clause-one c =
-    λ macros tokens a b room m n one other.
+    λ condition macros tokens a b room m n one other.
     let same : done one.0 m ≡ done other.0 n = expands_one macros room c.one_replacement.ensures one.1 (done other.0 n) other.1 in
     let lists : one.0 ≡ other.0 = cc in
     let counts : m ≡ n = cc in
@@ -15,10 +15,10 @@ returns-clause-one c =
 
 pub returns-clause-apart : goal.returns-clause-apart
 returns-clause-apart c =
-    λ macros tokens a room m fault one other.
+    λ condition macros tokens a room m fault one other.
     let same : done one.0 m ≡ stopped fault = expands_one macros room c.one_replacement.ensures one.1 (stopped fault) other in cc
 
 pub returns-clause-refusal : goal.returns-clause-refusal
 returns-clause-refusal c =
-    λ macros tokens room one other a b.
+    λ condition macros tokens room one other a b.
     let same : stopped one ≡ stopped other = expands_one macros room c.one_replacement.ensures a (stopped other) b in cc

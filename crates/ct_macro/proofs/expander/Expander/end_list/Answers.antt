@@ -9,8 +9,8 @@ use Rattle.ct_macro.proofs.expander.Expander.end_list.Goals as goal
 pub returns-in_default-clause-ends : goal.returns-in_default-clause-ends
 returns-in_default-clause-ends c =
     λ e macros.
-    comes_moved macros c.args.room c.args.self.now.counted c.args.self.now.counted [] c.args.self.now.calls c.args.self.now.done c.args.self.now.done [] c.args.self.now.rest _
-    refl (sym c.in_default.ensures.0) refl (sym c.requires.ended) (finished_comes macros c.args.room c.args.self.now.counted c.args.self.now.done)
+    comes_moved macros c.args.room c.args.self.now.condition c.args.self.now.condition c.args.self.now.counted c.args.self.now.counted [] c.args.self.now.calls c.args.self.now.done c.args.self.now.done [] c.args.self.now.rest _
+    refl refl (sym c.in_default.ensures.0) refl (sym c.requires.ended) (finished_comes macros c.args.room c.args.self.now.condition c.args.self.now.counted c.args.self.now.done)
 
 pub returns-in_default-clause-goes : goal.returns-in_default-clause-goes
 returns-in_default-clause-goes c = λ e. absurd (false≢true e)
@@ -47,9 +47,9 @@ returns-in_err-go_on-clause-fault c =
     let next : Frame = record c.in-Some.frame { fulls = c.push.new.self } in
     fault_passed _ _ c.from_residual-in_err-go_on.result c.in_err-go_on.field-0.0 _ _ c.from_residual-in_err-go_on.ensures.1 c.in_err-go_on.ensures.fault
     (λ fault goes macros.
-    comes_moved macros c.args.room c.args.self.now.counted c.args.self.now.counted (c.in-Some.frame ∷ c.next.new.self) c.args.self.now.calls c.args.self.now.done c.args.self.now.done [] c.args.self.now.rest _
-    refl (sym c.in-Some.ensures) refl (sym c.requires.ended)
-    (ended_comes macros c.args.room c.args.self.now.counted c.next.new.self c.in-Some.frame next c.args.self.now.done _ refl refl refl refl
+    comes_moved macros c.args.room c.args.self.now.condition c.args.self.now.condition c.args.self.now.counted c.args.self.now.counted (c.in-Some.frame ∷ c.next.new.self) c.args.self.now.calls c.args.self.now.done c.args.self.now.done [] c.args.self.now.rest _
+    refl refl (sym c.in-Some.ensures) refl (sym c.requires.ended)
+    (ended_comes macros c.args.room c.args.self.now.condition c.args.self.now.counted c.next.new.self c.in-Some.frame next c.args.self.now.done _ refl refl refl refl refl
     (c.in_ok-push.ensures.ok ∙ ap (λ (l : List Marked). c.in-Some.frame.fulls ++ l ∷ []) c.replace-full.ensures.value) (goes macros)))
 
 pub returns-clause-ends : goal.returns-clause-ends
@@ -59,9 +59,9 @@ pub returns-clause-goes : goal.returns-clause-goes
 returns-clause-goes c =
     let next : Frame = record c.in-Some.frame { fulls = c.push.new.self } in
     λ e macros outer comes.
-    comes_moved macros c.args.room c.args.self.now.counted c.args.self.now.counted (c.in-Some.frame ∷ c.next.new.self) c.args.self.now.calls c.args.self.now.done c.args.self.now.done [] c.args.self.now.rest outer
-    refl (sym c.in-Some.ensures) refl (sym c.requires.ended)
-    (ended_comes macros c.args.room c.args.self.now.counted c.next.new.self c.in-Some.frame next c.args.self.now.done outer refl refl refl refl
+    comes_moved macros c.args.room c.args.self.now.condition c.args.self.now.condition c.args.self.now.counted c.args.self.now.counted (c.in-Some.frame ∷ c.next.new.self) c.args.self.now.calls c.args.self.now.done c.args.self.now.done [] c.args.self.now.rest outer
+    refl refl (sym c.in-Some.ensures) refl (sym c.requires.ended)
+    (ended_comes macros c.args.room c.args.self.now.condition c.args.self.now.counted c.next.new.self c.in-Some.frame next c.args.self.now.done outer refl refl refl refl refl
     (c.in_ok-push.ensures.ok ∙ ap (λ (l : List Marked). c.in-Some.frame.fulls ++ l ∷ []) c.replace-full.ensures.value) (c.in_ok-go_on.ensures.ok macros outer comes))
 
 pub returns-clause-within : goal.returns-clause-within

@@ -1,4 +1,4 @@
-use Rattle.std.proofs.Common.{rules, ◌≡◌, ◌∷◌, ◌++◌, [], List, length, ap, refl, sym, ◌∙◌, arith}
+use Rattle.std.proofs.Common.{rules, false, ◌≡◌, ◌∷◌, ◌++◌, [], List, length, ap, refl, sym, ◌∙◌, arith}
 use Rattle.ct_macro_call.specs.declared.marked.Marked.{Marked}
 use Rattle.std.proofs.lemmas.List.{append-nil}
 use Rattle.ct_macro.specs.declared.expander.Frame.{Frame}
@@ -51,9 +51,9 @@ pub returns-clause-ok : goal.returns-clause-ok
 returns-clause-ok c =
     let next : Frame = record c.args.frame { waiting = c.next.new.self } in
     λ macros outer comes.
-    argument_goes macros c.args.room c.args.self.now.counted c.args.self.now.calls c.args.frame next c.in-Some.argument outer refl c.in-Some.ensures refl refl refl
-    (comes_moved macros c.args.room c.args.self.now.counted c.args.self.now.counted c.push.new.self (next ∷ c.args.self.now.calls) c.new.result [] c.put_front.new.self c.in-Some.argument outer
-    refl c.in_ok-push.ensures c.new.ensures (c.in_ok-put_front.ensures ∙ ap (λ (l : List Marked). c.in-Some.argument ++ l) c.new-rest.ensures ∙ append-nil c.in-Some.argument) comes)
+    argument_goes macros c.args.room c.args.self.now.counted c.args.self.now.calls c.args.frame next c.in-Some.argument outer refl refl c.in-Some.ensures refl refl refl
+    (comes_moved macros c.args.room false false c.args.self.now.counted c.args.self.now.counted c.push.new.self (next ∷ c.args.self.now.calls) c.new.result [] c.put_front.new.self c.in-Some.argument outer
+    refl refl c.in_ok-push.ensures c.new.ensures (c.in_ok-put_front.ensures ∙ ap (λ (l : List Marked). c.in-Some.argument ++ l) c.new-rest.ensures ∙ append-nil c.in-Some.argument) comes)
 
 pub returns-clause-within : goal.returns-clause-within
 returns-clause-within c =

@@ -59,8 +59,8 @@ returns-clause-ok c =
     λ macros outer comes.
     put_goes macros c.args.room c.args.self.now.counted c.args.self.now.calls c.args.frame c.in-Some.put outer c.requires.ready
     (subst (λ (f : List (List Marked)). IsReplacement c.args.frame.call f c.in-Some.put) c.as_slice.ensures (rw c.in-Some.is at c.in_ok-put.ensures)) fits
-    (comes_moved macros c.args.room (c.args.self.now.counted + c.len-2.result) (c.args.self.now.counted + length c.in-Some.put) c.args.self.now.calls c.args.self.now.calls c.args.frame.done c.args.frame.done
-    c.put_front.new.self (c.in-Some.put ++ c.args.frame.rest) outer (ap (λ n. c.args.self.now.counted + n) c.len-2.ensures) refl refl c.in_ok-put_front.ensures comes)
+    (comes_moved macros c.args.room c.args.frame.condition c.args.frame.condition (c.args.self.now.counted + c.len-2.result) (c.args.self.now.counted + length c.in-Some.put) c.args.self.now.calls c.args.self.now.calls c.args.frame.done c.args.frame.done
+    c.put_front.new.self (c.in-Some.put ++ c.args.frame.rest) outer refl (ap (λ n. c.args.self.now.counted + n) c.len-2.ensures) refl refl c.in_ok-put_front.ensures comes)
 
 pub returns-clause-within : goal.returns-clause-within
 returns-clause-within c =

@@ -29,7 +29,7 @@ pub returns-in_ok-read-in-Some-clause-ends : goal.returns-in_ok-read-in-Some-cla
 returns-in_ok-read-in-Some-clause-ends c = λ e. absurd (false≢true (sym e))
 
 pub returns-in_ok-read-in-Some-clause-goes : goal.returns-in_ok-read-in-Some-clause-goes
-returns-in_ok-read-in-Some-clause-goes c = λ e. c.in_ok-read-in-Some.ensures.goes c.args.self.now refl refl refl c.in-Some.ensures
+returns-in_ok-read-in-Some-clause-goes c = λ e. c.in_ok-read-in-Some.ensures.goes c.args.self.now refl refl refl refl c.in-Some.ensures
 
 pub returns-in_ok-read-in-Some-clause-within : goal.returns-in_ok-read-in-Some-clause-within
 returns-in_ok-read-in-Some-clause-within c =
@@ -37,11 +37,11 @@ returns-in_ok-read-in-Some-clause-within c =
 
 pub returns-in-None-clause-ends : goal.returns-in-None-clause-ends
 returns-in-None-clause-ends c =
-    IfOk-weaker c.end_list.result _ _ (λ more given e. comes_moved c.args.macros.now c.args.room c.args.self.now.counted c.args.self.now.counted c.args.self.now.calls c.args.self.now.calls c.args.self.now.done c.args.self.now.done c.next.new.self c.args.self.now.rest _ refl refl refl (c.in-None.ensures.1 ∙ sym c.in-None.ensures.0) (given e c.args.macros.now)) c.end_list.ensures.ends
+    IfOk-weaker c.end_list.result _ _ (λ more given e. comes_moved c.args.macros.now c.args.room c.args.self.now.condition c.args.self.now.condition c.args.self.now.counted c.args.self.now.counted c.args.self.now.calls c.args.self.now.calls c.args.self.now.done c.args.self.now.done c.next.new.self c.args.self.now.rest _ refl refl refl refl (c.in-None.ensures.1 ∙ sym c.in-None.ensures.0) (given e c.args.macros.now)) c.end_list.ensures.ends
 
 pub returns-in-None-clause-goes : goal.returns-in-None-clause-goes
 returns-in-None-clause-goes c =
-    IfOk-weaker c.end_list.result _ _ (λ more given e outer comes. comes_moved c.args.macros.now c.args.room c.args.self.now.counted c.args.self.now.counted c.args.self.now.calls c.args.self.now.calls c.args.self.now.done c.args.self.now.done c.next.new.self c.args.self.now.rest outer refl refl refl (c.in-None.ensures.1 ∙ sym c.in-None.ensures.0) (given e c.args.macros.now outer comes)) c.end_list.ensures.goes
+    IfOk-weaker c.end_list.result _ _ (λ more given e outer comes. comes_moved c.args.macros.now c.args.room c.args.self.now.condition c.args.self.now.condition c.args.self.now.counted c.args.self.now.counted c.args.self.now.calls c.args.self.now.calls c.args.self.now.done c.args.self.now.done c.next.new.self c.args.self.now.rest outer refl refl refl refl (c.in-None.ensures.1 ∙ sym c.in-None.ensures.0) (given e c.args.macros.now outer comes)) c.end_list.ensures.goes
 
 pub returns-in-None-clause-within : goal.returns-in-None-clause-within
 returns-in-None-clause-within c =
@@ -49,4 +49,4 @@ returns-in-None-clause-within c =
 
 pub returns-in-None-clause-fault : goal.returns-in-None-clause-fault
 returns-in-None-clause-fault c =
-    if_fault _ _ c.end_list.result _ _ c.end_list.ensures.fault (λ fault given. comes_moved c.args.macros.now c.args.room c.args.self.now.counted c.args.self.now.counted c.args.self.now.calls c.args.self.now.calls c.args.self.now.done c.args.self.now.done c.next.new.self c.args.self.now.rest _ refl refl refl (c.in-None.ensures.1 ∙ sym c.in-None.ensures.0) (given c.args.macros.now))
+    if_fault _ _ c.end_list.result _ _ c.end_list.ensures.fault (λ fault given. comes_moved c.args.macros.now c.args.room c.args.self.now.condition c.args.self.now.condition c.args.self.now.counted c.args.self.now.counted c.args.self.now.calls c.args.self.now.calls c.args.self.now.done c.args.self.now.done c.next.new.self c.args.self.now.rest _ refl refl refl refl (c.in-None.ensures.1 ∙ sym c.in-None.ensures.0) (given c.args.macros.now))

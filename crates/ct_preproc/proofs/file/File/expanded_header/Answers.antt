@@ -1,4 +1,4 @@
-use Rattle.std.proofs.Common.{rules, ◌≡◌, Some, None, sym, ap}
+use Rattle.std.proofs.Common.{rules, false, ◌≡◌, Some, None, sym, ap}
 use Rattle.std.specs.Prelude.{Ok, Err}
 use Rattle.ct_directive.specs.declared.faults.PreKind.TheVariants as pre
 use Rattle.ct_directive.specs.Forms.{quoted_header}
@@ -10,7 +10,7 @@ use Rattle.ct_preproc.proofs.file.File.expanded_header.Goals as goal
 
 pub returns-in_err-expanded : goal.returns-in_err-expanded
 returns-in_err-expanded c =
-    on_passed c.from_residual.result c.in_err-expanded.field-0.0 (spec.Expands c.args.self.now.place.now c.args.self.now.limit c.args.state c.args.tokens.now)
+    on_passed c.from_residual.result c.in_err-expanded.field-0.0 (spec.Expands false c.args.self.now.place.now c.args.self.now.limit c.args.state c.args.tokens.now)
     (λ answer found. answer ≡ spec.quoted_answer c.args.self.now.place.now c.args.line found.1 (quoted_header found.0)) (search rules) c.in_err-expanded.ensures
 
 pub returns-in-Some : goal.returns-in-Some
@@ -24,7 +24,7 @@ returns-in-Some c =
 pub returns : goal.returns
 returns c =
     let none : quoted_header c.in_ok-expanded.expanded ≡ None = search rules in
-    on_next (spec.Expands c.args.self.now.place.now c.args.self.now.limit c.args.state c.args.tokens.now) (c.in_ok-expanded.expanded, c.in_ok-expanded.state) (Err c.fault.result)
+    on_next (spec.Expands false c.args.self.now.place.now c.args.self.now.limit c.args.state c.args.tokens.now) (c.in_ok-expanded.expanded, c.in_ok-expanded.state) (Err c.fault.result)
     (λ found answer. answer ≡ spec.quoted_answer c.args.self.now.place.now c.args.line found.1 (quoted_header found.0)) c.in_ok-expanded.ensures
     (on_fault c.fault.result (spec.fault_at c.args.self.now.place.now c.args.line pre.BadDirective)
     (λ answer. answer ≡ spec.quoted_answer c.args.self.now.place.now c.args.line c.in_ok-expanded.state (quoted_header c.in_ok-expanded.expanded)) c.fault.ensures

@@ -61,22 +61,22 @@ pub inside-returns-in_err-state : goal.inside-returns-in_err-state
 inside-returns-in_err-state g t c =
     let enters = spec.Enters (g.F.Finder.texts c.args.self.now.search.finder.now) c.args.self.now.search.folders.now c.args.self.now.search.heads.now built_in_headers c.args.file.limit c.args.more in
     let place = c.args.file.place.now in
-    let inner : Place = record { path = c.args.target.path; depth = place.depth + 1 } in
+    let inner : Place = record { path = c.args.target.path; depth = place.depth + 1; built_in = c.args.target.built_in } in
     let text : c.as_slice.result.now ≡ c.args.target.text = search rules in
-    on_passed c.from_residual.result c.in_err-state.field-0.0 (spec.ReadsFile c.args.file.limit enters inner c.args.target.text c.args.target.built_in c.args.state)
+    on_passed c.from_residual.result c.in_err-state.field-0.0 (spec.ReadsFile c.args.file.limit enters inner c.args.target.text c.args.state)
     (λ answer after. answer ≡ Ok (record after { macros = with_path place.path after.macros })) (search rules)
-    (subst (λ (text : List ℕ). OnAnswer {T = State} {F = PreFault} (Err c.in_err-state.field-0.0) (spec.ReadsFile c.args.file.limit enters inner text c.args.target.built_in c.args.state))
+    (subst (λ (text : List ℕ). OnAnswer {T = State} {F = PreFault} (Err c.in_err-state.field-0.0) (spec.ReadsFile c.args.file.limit enters inner text c.args.state))
     text c.in_err-state.ensures)
 
 pub inside-returns : goal.inside-returns
 inside-returns g t c =
     let enters = spec.Enters (g.F.Finder.texts c.args.self.now.search.finder.now) c.args.self.now.search.folders.now c.args.self.now.search.heads.now built_in_headers c.args.file.limit c.args.more in
     let place = c.args.file.place.now in
-    let inner : Place = record { path = c.args.target.path; depth = place.depth + 1 } in
+    let inner : Place = record { path = c.args.target.path; depth = place.depth + 1; built_in = c.args.target.built_in } in
     let text : c.as_slice.result.now ≡ c.args.target.text = search rules in
     let macros : c.in_ok-state-2.field-0 ≡ with_path place.path c.in_ok-state.state.macros = search rules in (
       Ok c.in_ok-state.state,
-      subst (λ (text : List ℕ). spec.ReadsFile c.args.file.limit enters inner text c.args.target.built_in c.args.state (Ok c.in_ok-state.state)) text c.in_ok-state.ensures,
+      subst (λ (text : List ℕ). spec.ReadsFile c.args.file.limit enters inner text c.args.state (Ok c.in_ok-state.state)) text c.in_ok-state.ensures,
       ap (λ (macros : List Macro). Ok (record c.in_ok-state.state { macros = macros })) macros,
     )
 
@@ -123,7 +123,7 @@ pub read-returns-in_err-tokens : goal.read-returns-in_err-tokens
 read-returns-in_err-tokens g t c =
     let enters = spec.Enters (g.F.Finder.texts c.args.self.now.search.finder.now) c.args.self.now.search.folders.now c.args.self.now.search.heads.now built_in_headers c.args.file.limit c.args.more in
     let place = c.args.file.place.now in
-    on_open c.from_residual.result c.in_err-tokens.field-0.0 (IsLexed place c.args.built_in (file_number place.path c.args.state.files) c.args.text.now)
+    on_open c.from_residual.result c.in_err-tokens.field-0.0 (IsLexed place place.built_in (file_number place.path c.args.state.files) c.args.text.now)
     (λ answer tokens. spec.ReadsLines c.args.file.limit enters place (spec.begins place c.args.state) (lines_of tokens) answer) (search rules) c.in_err-tokens.ensures.«open»
 
 pub acted-returns : goal.acted-returns
@@ -145,7 +145,7 @@ read-returns g t c =
     let tokens = c.in_ok-tokens.tokens.items in
     let lines : c.in_ok-lines.lines.items ≡ lines_of tokens = search rules in
     let reading : c.in_ok-reading.reading ≡ steps.begun place c.args.state = search rules in
-    on_next (IsLexed place c.args.built_in (file_number place.path c.args.state.files) c.args.text.now) tokens c.lines.result
+    on_next (IsLexed place place.built_in (file_number place.path c.args.state.files) c.args.text.now) tokens c.lines.result
     (λ tokens answer. spec.ReadsLines c.args.file.limit enters place (spec.begins place c.args.state) (lines_of tokens) answer) c.in_ok-tokens.ensures.tokens
     (on_map c.lines.result (steps.StepsLines c.args.file.limit enters place (steps.begun place c.args.state) (lines_of tokens))
     (spec.ReadsLines c.args.file.limit enters place (spec.begins place c.args.state) (lines_of tokens))
