@@ -7,24 +7,23 @@ use Rattle.std.proofs.lemmas.Bool.{cases_lt}
 use Rattle.ct_base.specs.declared.lexical.Token.{Token}
 use Rattle.ct_base.specs.declared.limits.LimitKind.{LimitKind}
 use Rattle.ct_base.specs.declared.refusals.Refusal.{Refusal}
-use Rattle.ct_find.specs.Folders.{IsTest}
+use Rattle.ct_find.specs.declared.files.Files.{Files as Found}
 use Rattle.ct_find.specs.Limits.{most_file_bytes}
-use Rattle.ct_find.specs.Results.{Passes, Stays}
+use Rattle.ct_find.specs.Results.{IsFound, Passes, Stays}
 use Rattle.ct_outside.specs.Files.{Files, EachOnce}
 use Rattle.ct_report.specs.declared.logs.RunLog.{RunLog}
 use Rattle.ct_settings.specs.declared.record.ProjectSettings.{ProjectSettings}
 use Rattle.ct_settings.specs.declared.record.SettingFault.{SettingFault}
 use Rattle.ct_settings.specs.Table.{settings_of}
 use Rattle.ct_token.specs.Lexing.{IsTokenization, LeavesOpen}
-use Rattle.ct_yaml.specs.Text.{text_lines, IsFaultLine}
-use Rattle.ct_yaml.proofs.RunLemmas.{one_node}
+use Rattle.ct_yaml.specs.declared.node.Node.{Node}
+use Rattle.ct_yaml.specs.Text.{text_lines, IsFaultLine, SpellsNode}
 use Rattle.ct_core.specs.declared.units.CoreUnit.{CoreUnit}
 use Rattle.ct_form.specs.declared.outside.Outside.{Outside}
 use Rattle.ct_form.specs.Form.{HasForm}
 use Rattle.ct_top.specs.Meaning.{FileMeans, answer_of, open_comment}
 use Rattle.ct_top.specs.Project.{FilesMean, HasOutcome, IsSameTest, LongTextMeans, LogsOrRefusal, ProjectMeans, SearchMeans, SettingsMean, TestsMean, TextMeans, base_name, limit_passed, no_yaml, project_path, same_test, text_at, with_log}
 use Rattle.ct_top.proofs.Members.{contains_first, contains_more, contains_cases, contains_none}
-use Rattle.ct_find.proofs.OneFinding.{one_set}
 
 same_refusal : (r q : Refusal) → ◌≡◌ {A = Result RunLog Refusal} (Err r) (Err q) → r ≡ q
 same_refusal r q e = cc
@@ -99,7 +98,9 @@ module _ (one : (file : ℕ) (text : List ℕ) (a b : List Token) → IsTokeniza
     (one_form : (path : List ℕ) (tokens : List Token) (a b : Result CoreUnit Outside) → HasForm path tokens a → HasForm path tokens b → a ≡ b)
     (one_limit : (settings : ProjectSettings) (files : Files) (kind other : LimitKind) (path place : List ℕ)
     → Passes settings files kind path → Passes settings files other place → (kind ≡ other) × (path ≡ place))
-    (apart : (settings : ProjectSettings) (files : Files) (kind : LimitKind) (path : List ℕ) → Stays settings files → Passes settings files kind path → ⊥) where
+    (apart : (settings : ProjectSettings) (files : Files) (kind : LimitKind) (path : List ℕ) → Stays settings files → Passes settings files kind path → ⊥)
+    (one_found : (settings : ProjectSettings) (files : Files) (found other : Found) → IsFound settings files found → IsFound settings files other → found ≡ other)
+    (one_node : (lines : List (List ℕ)) (first second : Node) → SpellsNode lines first → SpellsNode lines second → first ≡ second) where
   file-unique : (path text : List ℕ) (r q : Result RunLog Refusal) → FileMeans path text r → FileMeans path text q → r ≡ q
   file-unique path text r q (inl f) (inr g) = absurd (closed 0 text f.0 g.0 f.1 g.1)
   file-unique path text r q (inr f) (inl g) = absurd (closed 0 text g.0 f.0 g.1 f.1)
@@ -130,8 +131,8 @@ module _ (one : (file : ℕ) (text : List ℕ) (a b : List Token) → IsTokeniza
 
   search-unique : (files : Files) (settings : ProjectSettings) (a b : LogsOrRefusal) → SearchMeans files settings a → SearchMeans files settings b → a ≡ b
   search-unique files settings a b (inl f) (inl g) =
-      let tests = one_set (IsTest settings files) f.0.tests g.0.tests f.1.1.tests g.1.1.tests in
-      tests-unique files g.0.tests a b (subst (λ ts. TestsMean files ts a) tests f.2) g.2
+      let found = one_found settings files f.0 g.0 f.1.1 g.1.1 in
+      tests-unique files g.0.tests a b (subst (λ (o : Found). TestsMean files o.tests a) found f.2) g.2
   search-unique files settings a b (inl f) (inr g) = absurd (apart settings files g.0 g.1 f.1.0 g.2)
   search-unique files settings a b (inr f) (inl g) = absurd (apart settings files f.0 f.1 g.1.0 f.2)
   search-unique files settings a b (inr f) (inr g) =

@@ -7,6 +7,7 @@ ghost use Rattle.ct_top.specs.Project.{HasOutcome, LogsOrRefusal};
 use ct_find::one_finding;
 use ct_form::one_form;
 use ct_token::{one_open_comment, one_tokenization};
+use ct_yaml::one_node;
 
 /// A project has at most one outcome: the one that a clause of `run` names is the only one.
 pub fn one_outcome()
@@ -16,4 +17,5 @@ pub fn one_outcome()
     one_form();
     one_tokenization();
     one_open_comment();
+    one_node();
 }

@@ -47,7 +47,6 @@ fn project_text<T: Tree>(alloc: Global, tree: &mut T) -> Result<Vec<u8>, Stop>
 }
 
 /// The tree of the text of a project file.
-#[tactic(auto, using(ct_yaml::proofs::CutLemmas::text_lines_few, ct_yaml::proofs::RunLemmas::line_told))]
 fn node_of(alloc: Global, text: &[u8]) -> Out<Node, Refusal>
     requires { length text.now ≤ most_file_bytes }
     ensures ok { IfOk result (λ node. SpellsNode (text_lines text.now) node) }

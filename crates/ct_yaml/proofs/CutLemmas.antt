@@ -1,9 +1,16 @@
 -- The lines of a text are those that `bstr` cuts.
-use Rattle.std.proofs.Common.{◌≡◌, ℕ, suc, ◌-◌, ◌≤◌, Bool, true, false, cond, eqb, ltb, List, [], ◌∷◌, length, take, drop, map, get_or, refl, sym, ap, ◌∙◌, ◌&&◌, ⊎_elim, arith}
+use Rattle.std.proofs.Common.{Result, Ok, Err, ◌≡◌, ℕ, suc, ◌-◌, ◌^◌, ◌<◌, ◌≤◌, Bool, true, false, cond, eqb, ltb, List, [], ◌∷◌, length, take, drop, map, get_or, refl, sym, ap, ◌∙◌, ◌&&◌, ⊎_elim, arith}
 use Rattle.std.proofs.lemmas.Bool.{cond-true, cond-false, cases_Bool, and_left, and_right, and_from, lt-ltb, cond_both}
 use Rattle.bstr.specs.Text.{line_len, lines_of, no_cr, without_terminator}
 use Rattle.bstr.proofs.lemmas.LineLemmas.{lines-nil, lines-step}
-use Rattle.ct_yaml.specs.Text.{in_front, begins_newline, text_lines}
+use Rattle.ct_base.specs.Answers.{IfFault}
+use Rattle.ct_base.specs.declared.memory.Fail.{Fail}
+use Rattle.ct_base.specs.declared.memory.Fail.TheVariants.{Fault, OutOfMemory}
+use Rattle.ct_yaml.specs.declared.node.Node.{Node}
+use Rattle.ct_yaml.specs.declared.text.YamlFault.{YamlFault}
+use Rattle.ct_yaml.specs.Run.{run_all, Comes}
+use Rattle.ct_yaml.specs.Text.{in_front, begins_newline, text_lines, IsFaultLine}
+use Rattle.ct_yaml.proofs.RunLemmas.{comes_refused, line_told}
 
 -- ---- a line without its end
 
@@ -146,3 +153,11 @@ text_lines_few (b ∷ bytes) =
     (λ e. cond_both ((eqb b 13) && begins_newline bytes) (text_lines bytes) (in_front (b ∷ []) (text_lines bytes)) fits
     (λ h. omega arith)
     (λ h. omega (arith, in_front_few (b ∷ []) (text_lines bytes))))
+
+-- the line of a text of fewer bytes than its type holds
+pub comes_line : (bytes : List ℕ) (r : Result Node (Fail YamlFault)) → Comes r (run_all (text_lines bytes)) → length bytes < 2 ^ 32 - 1
+    → IfFault r (λ fault. IsFaultLine (text_lines bytes) fault.line)
+comes_line bytes (Ok node) h few = tt
+comes_line bytes (Err (Fault fault)) h few =
+    let lines = text_lines_few bytes in line_told (text_lines bytes) fault (omega arith) (comes_refused (text_lines bytes) (Err (Fault fault)) h)
+comes_line bytes (Err OutOfMemory) h few = tt

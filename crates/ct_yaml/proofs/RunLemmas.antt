@@ -502,11 +502,10 @@ comes_refused lines (Err OutOfMemory) h = tt
 pub ruleset answer_rules = (comes_node, comes_refused)
 
 -- the line of a text of fewer lines than its type holds
-pub line_told : (lines : List (List ℕ)) (fault : YamlFault) → length lines < 2 ^ 32 - 1 → IsRefused lines (Fault fault)
-    → ((node : Node) → SpellsNode lines node → ⊥) × IsFaultLine lines fault.line
+pub line_told : (lines : List (List ℕ)) (fault : YamlFault) → length lines < 2 ^ 32 - 1 → IsRefused lines (Fault fault) → IsFaultLine lines fault.line
 line_told lines fault few (none, (n, is, told)) =
     let within : n ≤ length lines = ⊎_elim (λ f. f.0) (λ f. omega (arith, f.0)) is in
-    let same : n ≡ fault.line = omega arith in (none, subst (IsFaultLine lines) same is)
+    let same : n ≡ fault.line = omega arith in subst (IsFaultLine lines) same is
 
 -- ---- UTF-8
 

@@ -1,11 +1,12 @@
 //! A text, line by line.
 
-ghost use Rattle.std.specs.Prelude.{◌≡◌, IfOk, IfErr};
+ghost use Rattle.std.specs.Prelude.{◌≡◌, ◌-◌, ◌<◌, ◌^◌, IfOk, IfErr, length};
 ghost use Rattle.std.specs.Str as str_spec;
+ghost use Rattle.ct_base.specs.Answers.{IfFault};
 ghost use Rattle.ct_yaml.specs.Gives.{Gives};
 ghost use Rattle.ct_yaml.specs.Run as spec;
 ghost use Rattle.ct_yaml.specs.Stack as stack;
-ghost use Rattle.ct_yaml.specs.Text.{line_number, text_lines, SpellsNode, IsRefused};
+ghost use Rattle.ct_yaml.specs.Text.{line_number, text_lines, SpellsNode, IsFaultLine, IsRefused};
 
 use crate::chars::{Unspelled, is_blank_line, is_marker};
 use crate::lines::marks;
@@ -146,11 +147,13 @@ fn read_lines(alloc: Global, bytes: &[u8]) -> Out<Node, YamlFault>
 /// # Errors
 ///
 /// A fault comes exactly where no node spells the text. Its line is the first, counted from 1, such that
-/// the lines up to it begin no text, and the last line where there is none.
-#[tactic(auto, using(crate::proofs::RunLemmas::answer_rules))]
+/// the lines up to it begin no text, and the last line where there is none. Where the text has fewer than
+/// 2 ^ 32 - 1 bytes, the number of the fault is that very line.
+#[tactic(auto, using(crate::proofs::RunLemmas::answer_rules, crate::proofs::CutLemmas::comes_line))]
 pub fn read(alloc: Global, bytes: &[u8]) -> Out<Node, YamlFault>
     ensures node { IfOk result (λ node. SpellsNode (text_lines bytes.now) node) }
     ensures refused { IfErr result (IsRefused (text_lines bytes.now)) }
+    ensures line { length bytes.now < 2 ^ 32 - 1 → IfFault result (λ fault. IsFaultLine (text_lines bytes.now) fault.line) }
 {
     read_lines(alloc, bytes)
 }
