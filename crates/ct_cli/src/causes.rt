@@ -1,8 +1,7 @@
 //! What an error of the system means.
 
 ghost use Rattle.std.specs.Prelude.{◌≡◌, ◌+◌, ◌-◌, ◌^◌, min};
-ghost use Rattle.std.specs.IoError.{error_kind};
-ghost use Rattle.ct_cli.specs.Systems.{cause_at};
+ghost use Rattle.ct_cli.specs.Systems.{cause_at, cause_of_kind};
 
 use std::io::{self, ErrorKind};
 
@@ -16,14 +15,27 @@ pub enum Cause {
     System,
 }
 
-/// What an error of the system means.
-pub fn cause_of(error: &io::Error) -> Cause
-    ensures { result ≡ cause_at (error_kind error.now) }
+/// The number of the system's error for a path that is too long, `ENAMETOOLONG`.
+const NAME_TOO_LONG: i32 = 36;
+
+/// What an error of a kind means.
+fn cause_of_kind(kind: ErrorKind) -> Cause
+    ensures { result ≡ cause_of_kind kind }
 {
-    match error.kind() {
+    match kind {
         ErrorKind::NotFound | ErrorKind::NotADirectory | ErrorKind::IsADirectory => Cause::Missing,
         ErrorKind::OutOfMemory => Cause::OutOfMemory,
         _ => Cause::System,
+    }
+}
+
+/// What an error of the system means.
+pub fn cause_of(error: &io::Error) -> Cause
+    ensures { result ≡ cause_at error.now }
+{
+    match error.raw_os_error() {
+        Some(NAME_TOO_LONG) => Cause::Missing,
+        _ => cause_of_kind(error.kind()),
     }
 }
 

@@ -1,7 +1,6 @@
 //! The tree of the files of a folder.
 
 ghost use Rattle.std.specs.Prelude.{◌≡◌, ◌↔◌, ◌-◌, ◌^◌, None, ◌≤◌, IfOk, IsErr, vec_len};
-ghost use Rattle.std.specs.IoError.{error_kind};
 ghost use Rattle.ct_cli.specs.Systems.{cause_at};
 ghost use Rattle.ct_outside.specs.Counts.{CountAfter, Rose};
 
@@ -150,8 +149,8 @@ fn put<R: Files>(rt: &R, path: &str, bytes: &[u8]) -> io::Result<()> {
 
 /// What a list or a read answers to an error of the system.
 fn answer_to(error: &io::Error, faults: &mut u64) -> Result<Found, TreeError>
-    ensures memory { result ≡ Err TreeError.OutOfMemory ↔ (cause_at (error_kind error.now) ≡ Cause.OutOfMemory) }
-    ensures missing { result ≡ Ok Found.Absent ↔ (cause_at (error_kind error.now) ≡ Cause.Missing) }
+    ensures memory { result ≡ Err TreeError.OutOfMemory ↔ (cause_at error.now ≡ Cause.OutOfMemory) }
+    ensures missing { result ≡ Ok Found.Absent ↔ (cause_at error.now ≡ Cause.Missing) }
     ensures never_there { IfOk result (λ found. found ≡ Found.Absent) }
     ensures faults { CountAfter result faults.old faults.new }
     ensures bounded { faults.old ≤ 2 ^ 64 - 1 → faults.new ≤ 2 ^ 64 - 1 }
@@ -165,7 +164,7 @@ fn answer_to(error: &io::Error, faults: &mut u64) -> Result<Found, TreeError>
 
 /// What a write answers to an error of the system.
 fn answer_to_write(error: &io::Error, faults: &mut u64) -> Result<(), TreeError>
-    ensures memory { result ≡ Err TreeError.OutOfMemory ↔ (cause_at (error_kind error.now) ≡ Cause.OutOfMemory) }
+    ensures memory { result ≡ Err TreeError.OutOfMemory ↔ (cause_at error.now ≡ Cause.OutOfMemory) }
     ensures never_done { IsErr result }
     ensures faults { CountAfter result faults.old faults.new }
     ensures bounded { faults.old ≤ 2 ^ 64 - 1 → faults.new ≤ 2 ^ 64 - 1 }
